@@ -1,0 +1,8 @@
+// Runs the documents' examples and prints a line for each. What is printed is held to the file `stdout` beside `src`, which was written from
+// the documents and not by this program.
+mod lits;
+mod say;
+
+fn main() {
+    lits::run();
+}

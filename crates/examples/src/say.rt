@@ -1,0 +1,14 @@
+// Text and numbers on standard output.
+use libc::STDOUT_FILENO;
+
+pub fn text(s: &[u8]) {
+    io::write_all(STDOUT_FILENO, s);
+}
+
+pub fn number(n: u64) {
+    io::print_decimal(STDOUT_FILENO, n);
+}
+
+pub fn line_end() {
+    text(b"\n");
+}

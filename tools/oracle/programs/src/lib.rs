@@ -1,0 +1,13 @@
+//! What the judge's programs share: document 01's rules around the crate, document 01's words as a
+//! program of their own, and makers of input.
+pub mod circuit;
+pub mod circuit_kinds;
+pub mod examples;
+pub mod hex;
+pub mod random;
+pub mod sheet;
+pub mod sheet_kinds;
+pub mod token_kinds;
+pub mod token_line;
+pub mod token_words;
+pub mod walk_words;
