@@ -6,26 +6,48 @@ use mathlib.Core.Bool.{Bool, true, false, cond}
 use native.Mathlib.Omega.{arith}
 use lib.Dec.{ltb}
 use borrow.Author.Tests.{lt-ltb, le-ltb}
-use Rattle.lit.specs.Code.{variable, literal, halved, doubled, flippedBy}
+use Rattle.lit.specs.Code.{variable, literal, halved, doubled}
 use Rattle.lit.specs.declared.Var.{Var}
 use Rattle.lit.specs.declared.Lit.{Lit}
-use Rattle.lit.specs.declared.Doubled.{Doubled}
 use Rattle.lit.specs.declared.Doubled.the-variants.{Code, TooBig}
+use Rattle.promise.specs.Determined.{Determines}
+use Rattle.lit.proofs.Var.from_index.Kinds as var-from-index-kinds
+use Rattle.lit.proofs.Var.from_index.Reads as var-from-index-promise
+use Rattle.lit.proofs.Var.index.Kinds as var-index-kinds
+use Rattle.lit.proofs.Var.index.Reads as var-index-promise
+use Rattle.lit.proofs.Var.lit.Kinds as var-lit-kinds
+use Rattle.lit.proofs.Var.lit.Reads as var-lit-promise
+use Rattle.lit.proofs.Lit.from_code.Kinds as lit-from-code-kinds
+use Rattle.lit.proofs.Lit.from_code.Reads as lit-from-code-promise
+use Rattle.lit.proofs.Lit.code.Kinds as lit-code-kinds
+use Rattle.lit.proofs.Lit.code.Reads as lit-code-promise
+use Rattle.lit.proofs.Lit.var.Kinds as lit-var-kinds
+use Rattle.lit.proofs.Lit.var.Reads as lit-var-promise
+use Rattle.lit.proofs.Lit.flipped.Kinds as lit-flipped-kinds
+use Rattle.lit.proofs.Lit.flipped.Reads as lit-flipped-promise
 
--- a contract of the form `r ≡ f ..` allows one answer
-pub one-answer : {A : Type 0} {f : A} (r r′ : A) → r ≡ f → r′ ≡ f → r ≡ r′
-one-answer r r′ p q = p ∙ sym q
+-- Any two answers that a public function's contract allows for the same arguments are equal.
 
--- any two answers that each public function's contract allows are equal
-pub determined :
-    ((i : ℕ) (r r′ : Var) → r ≡ variable i → r′ ≡ variable i → r ≡ r′)
-    × ((v : Var) (r r′ : ℕ) → r ≡ v .0 → r′ ≡ v .0 → r ≡ r′)
-    × ((v : Var) (r r′ : Doubled) → r ≡ doubled v → r′ ≡ doubled v → r ≡ r′)
-    × ((c : ℕ) (r r′ : Lit) → r ≡ literal c → r′ ≡ literal c → r ≡ r′)
-    × ((l : Lit) (r r′ : ℕ) → r ≡ l .0 → r′ ≡ l .0 → r ≡ r′)
-    × ((l : Lit) (r r′ : Var) → r ≡ halved l → r′ ≡ halved l → r ≡ r′)
-    × ((t c : Lit) (r r′ : Lit) → r ≡ flippedBy t c → r′ ≡ flippedBy t c → r ≡ r′)
-determined = (λ i. one-answer, λ v. one-answer, λ v. one-answer, λ c. one-answer, λ l. one-answer, λ l. one-answer, λ t c. one-answer)
+pub one-var-from-index : Determines 0 var-from-index-kinds.ps var-from-index-kinds.r var-from-index-promise.Learnt
+one-var-from-index κs a x y e f p q = p ∙ sym q
+
+pub one-var-index : Determines 0 var-index-kinds.ps var-index-kinds.r var-index-promise.Learnt
+one-var-index κs a x y e f p q = p ∙ sym q
+
+pub one-var-lit : Determines 0 var-lit-kinds.ps var-lit-kinds.r var-lit-promise.Learnt
+one-var-lit κs a x y e f p q = p ∙ sym q
+
+pub one-lit-from-code : Determines 0 lit-from-code-kinds.ps lit-from-code-kinds.r lit-from-code-promise.Learnt
+one-lit-from-code κs a x y e f p q = p ∙ sym q
+
+pub one-lit-code : Determines 0 lit-code-kinds.ps lit-code-kinds.r lit-code-promise.Learnt
+one-lit-code κs a x y e f p q = p ∙ sym q
+
+pub one-lit-var : Determines 0 lit-var-kinds.ps lit-var-kinds.r lit-var-promise.Learnt
+one-lit-var κs a x y e f p q = p ∙ sym q
+
+pub one-lit-flipped : Determines 0 lit-flipped-kinds.ps lit-flipped-kinds.r lit-flipped-promise.Learnt
+one-lit-flipped κs a x y e f p q = p ∙ sym q
 
 -- the index 3 and the code 6 name the same variable, and so does the code 7; 0 and 1 are the constant's
 pub named : (doubled (variable 3) ≡ Code (literal 6)) × (halved (literal 6) ≡ variable 3) × (halved (literal 7) ≡ variable 3)
