@@ -1,0 +1,168 @@
+-- Laws of refusals: the place that one names, and which of two reasons is given. Assumes nothing.
+use mathlib.Core.Path.{_≡_, refl, subst}
+use mathlib.Core.Bool.{Bool, true, false, cond, _&&_, and-false}
+use mathlib.Core.List.{List}
+use Prim.Native.Nat.{ℕ, zero, suc, _+_, _%_, _^_, _≤_, _<_}
+use native.Mathlib.Omega.{arith}
+use lib.Dec.{ltb, leb, eqb}
+use lib.ListN.{length, getD, take, drop}
+use borrow.Author.Tests.{le-leb, lt-leb, le-ltb, eq-eqb, ne-eqb, eqb-true, eqb-false}
+use Rattle.token.specs.Format.{decimalValue}
+use Rattle.token.specs.Answer.{digitsAt, uintOf, uintAt, binaryOf, binaryAt, goOnAt, deltaAt, less, within, headerFieldAt, litAt, symbolIndexAt, pairAt, pairFirst, pairSecond}
+use Rattle.token.specs.declared.Reason.{Reason}
+use Rattle.token.specs.declared.Reason.the-variants.{LeadingZero, OverWidth, OverLimit, AssignsZero, AssignsOdd}
+use Rattle.token.specs.declared.Token.{Token}
+use Rattle.token.specs.declared.Token.the-variants.{Value, Refused}
+use Rattle.token.specs.declared.PairToken.the-variants.{PairRefused}
+
+-- which reason
+
+-- whoever reads a decimal number at the place answers t
+pub record Everyone (s : List ℕ) (at : ℕ) (t : Token) : Type 0 where
+  pub by-uint : uintAt s at ≡ t
+  pub by-header-field : (limit : ℕ) → headerFieldAt s at limit ≡ t
+  pub by-lit : (limit : ℕ) (assigning : Bool) → litAt s at limit assigning ≡ t
+  pub by-symbol-index : (limit : ℕ) → symbolIndexAt s at limit ≡ t
+
+-- what `uint` refuses everyone refuses
+pub everyone-refuses : (s : List ℕ) (at : ℕ) (why : Reason) → uintAt s at ≡ Refused why at → Everyone s at (Refused why at)
+unfolding headerFieldAt litAt symbolIndexAt
+everyone-refuses s at why e = record {
+  by-uint = e;
+  by-header-field = λ limit. rw e;
+  by-lit = flag;
+  by-symbol-index = λ limit. rw e;
+}
+  where
+    flag : (limit : ℕ) (assigning : Bool) → litAt s at limit assigning ≡ Refused why at
+    flag limit true = rw e
+    flag limit false = rw e
+
+pub leading-zero : (s : List ℕ) (at : ℕ) → 2 ≤ digitsAt s at → getD s at 0 ≡ 48 → uintAt s at ≡ Refused LeadingZero at
+unfolding uintAt
+leading-zero s at two z = rw (ne-eqb (digitsAt s at) 0 (omega arith), le-leb 2 (digitsAt s at) two, z)
+
+pub over-width : (s : List ℕ) (at : ℕ) → (getD s at 0 ≡ 48 → ⊥) → 2 ^ 64 ≤ decimalValue (take (digitsAt s at) (drop at s)) → uintAt s at ≡ Refused OverWidth at
+unfolding uintAt
+over-width s at z h = go (digitsAt s at) h
+  where
+    go : (n : ℕ) → 2 ^ 64 ≤ decimalValue (take n (drop at s)) → uintOf n (getD s at 0) (decimalValue (take n (drop at s))) at ≡ Refused OverWidth at
+    go zero k = absurd (omega arith)
+    go (suc n) k = rw (ne-eqb (suc n) 0 (omega arith), ne-eqb (getD s at 0) 48 z, and-false, le-ltb (decimalValue (take (suc n) (drop at s))) (2 ^ 64) k)
+
+-- a number that fits
+module _ (s : List ℕ) (at v n limit : ℕ) (e : uintAt s at ≡ Value v n) where
+  pub assigns-odd : v % 2 ≡ 1 → litAt s at limit true ≡ Refused AssignsOdd at
+  unfolding litAt
+  assigns-odd odd = rw (e, ne-eqb v 0 (omega arith), eq-eqb (v % 2) 1 odd)
+
+  pub assigns-zero : v ≡ 0 → litAt s at limit true ≡ Refused AssignsZero at
+  unfolding litAt
+  assigns-zero z = rw (e, eq-eqb v 0 z)
+
+  -- a code that may be assigned is held to the limit as it is where none is assigned
+  pub assigns-even : (v ≡ 0 → ⊥) → v % 2 ≡ 0 → litAt s at limit true ≡ litAt s at limit false
+  unfolding litAt
+  assigns-even some even = rw (e, ne-eqb v 0 some, ne-eqb (v % 2) 1 (omega arith))
+
+  -- the others answer what the limit makes of it
+  pub all-limited : (t : Token) → within limit at (Value v n) ≡ t → (headerFieldAt s at limit ≡ t) × (litAt s at limit false ≡ t) × (symbolIndexAt s at limit ≡ t)
+  unfolding headerFieldAt litAt symbolIndexAt
+  all-limited t q = (rw e q, rw e q, rw e q)
+
+pub within-fits : (limit at v n : ℕ) → v ≤ limit → within limit at (Value v n) ≡ Value v n
+within-fits limit at v n h = rw (le-leb v limit h)
+
+pub within-over : (limit at v n : ℕ) → limit < v → within limit at (Value v n) ≡ Refused OverLimit at
+within-over limit at v n h = rw (lt-leb v limit h)
+
+-- the place
+
+-- a token names the place given, if it refuses
+abbrev pub NamesPlace : ℕ → Token → Type 0
+NamesPlace at (Value v n) = Unit {0}
+NamesPlace at (Refused why place) = place ≡ at
+
+either : (at : ℕ) (test : Bool) (t u : Token) → NamesPlace at t → NamesPlace at u → NamesPlace at (cond test t u)
+either at true t u p q = p
+either at false t u p q = q
+
+pub uint-place : (s : List ℕ) (at : ℕ) → NamesPlace at (uintAt s at)
+unfolding uintAt
+uint-place s at = of (digitsAt s at) (getD s at 0) (decimalValue (take (digitsAt s at) (drop at s)))
+  where
+    of : (n d v : ℕ) → NamesPlace at (uintOf n d v at)
+    of n d v =
+        either at (eqb n 0) _ _ refl (either at (leb 2 n && eqb d 48) _ _ refl (either at (ltb v (2 ^ 64)) _ _ tt refl))
+
+pub binary-place : (s : List ℕ) (at : ℕ) → NamesPlace at (binaryAt s at)
+unfolding binaryAt
+binary-place s at = of (take 8 (drop at s)) (goOnAt s at)
+  where
+    of : (bs : List ℕ) (n : ℕ) → NamesPlace at (binaryOf bs n at)
+    of bs n = either at (leb 8 n) _ _ refl (either at (leb (length bs) n) _ _ refl tt)
+
+less-place : (reference at : ℕ) (t : Token) → NamesPlace at t → NamesPlace at (less reference at t)
+less-place reference at (Value d n) p = either at (leb d reference) _ _ tt refl
+less-place reference at (Refused why place) p = p
+
+within-place : (limit at : ℕ) (t : Token) → NamesPlace at t → NamesPlace at (within limit at t)
+within-place limit at (Value v n) p = either at (leb v limit) _ _ tt refl
+within-place limit at (Refused why place) p = p
+
+pub delta-place : (s : List ℕ) (at reference : ℕ) → NamesPlace at (deltaAt s at reference)
+unfolding deltaAt
+delta-place s at reference = less-place reference at (binaryAt s at) (binary-place s at)
+
+pub header-field-place : (s : List ℕ) (at limit : ℕ) → NamesPlace at (headerFieldAt s at limit)
+unfolding headerFieldAt
+header-field-place s at limit = within-place limit at (uintAt s at) (uint-place s at)
+
+-- the reasons of `lit` in their order, each at the place
+pub lit-place : (s : List ℕ) (at limit : ℕ) (assigning : Bool) → NamesPlace at (litAt s at limit assigning)
+lit-place s at limit assigning = go (uintAt s at) refl assigning
+  where
+    plain : (v n : ℕ) → uintAt s at ≡ Value v n → NamesPlace at (litAt s at limit false)
+    plain v n e = rw (all-limited s at v n limit e (within limit at (Value v n)) refl .1) (within-place limit at (Value v n) tt)
+
+    go : (t : Token) → uintAt s at ≡ t → (a : Bool) → NamesPlace at (litAt s at limit a)
+    go (Refused why place) e a =
+        let same : place ≡ at = subst (NamesPlace at) e (uint-place s at) in
+        rw (everyone-refuses s at why (rw same at e) .by-lit limit a) refl
+    go (Value v n) e false = plain v n e
+    go (Value v n) e true = zeroth (eqb v 0) (eqb (v % 2) 1) refl refl
+      where
+        zeroth : (x y : Bool) → eqb v 0 ≡ x → eqb (v % 2) 1 ≡ y → NamesPlace at (litAt s at limit true)
+        zeroth true y f g = rw (assigns-zero s at v n limit e (eqb-true v 0 f)) refl
+        zeroth false true f g = rw (assigns-odd s at v n limit e (eqb-true (v % 2) 1 g)) refl
+        zeroth false false f g =
+            let odd : v % 2 ≡ 1 → ⊥ = eqb-false (v % 2) 1 g in
+            rw (assigns-even s at v n limit e (eqb-false v 0 f) (omega arith)) (plain v n e)
+
+pub symbol-index-place : (s : List ℕ) (at limit : ℕ) → NamesPlace at (symbolIndexAt s at limit)
+unfolding symbolIndexAt
+symbol-index-place s at limit = within-place limit at (uintAt s at) (uint-place s at)
+
+-- a pair names the first byte of the delta that is refused: the first's, or, where that is read, the second's after it
+pub data RefusedDelta (s : List ℕ) (at code : ℕ) (why : Reason) (place : ℕ) : Type 0 where
+  first : deltaAt s at code ≡ Refused why place → place ≡ at → RefusedDelta s at code why place
+  second : (a n : ℕ) → deltaAt s at code ≡ Value a n → deltaAt s (at + n) a ≡ Refused why place → place ≡ at + n → RefusedDelta s at code why place
+
+named : (at : ℕ) (t : Token) (why : Reason) (place : ℕ) → NamesPlace at t → t ≡ Refused why place → place ≡ at
+named at t why place p e = subst (NamesPlace at) e p
+
+pub pair-place : (s : List ℕ) (at code : ℕ) (why : Reason) (place : ℕ) → pairAt s at code ≡ PairRefused why place → RefusedDelta s at code why place
+unfolding pairAt
+pair-place s at code why place e = go (deltaAt s at code) refl e
+  where
+    then : (a n : ℕ) → deltaAt s at code ≡ Value a n → (t : Token) → deltaAt s (at + n) a ≡ t → pairSecond code at a n t ≡ PairRefused why place → RefusedDelta s at code why place
+    then a n f (Value b m) g q = let z : _≡_ {A = ℕ} 0 1 = cc in absurd (omega arith)
+    then a n f (Refused w p) g q =
+        let r : deltaAt s (at + n) a ≡ Refused why place = cc in
+        second a n f r (named (at + n) (deltaAt s (at + n) a) why place (delta-place s (at + n) a) r)
+
+    go : (t : Token) → deltaAt s at code ≡ t → pairFirst s code at t ≡ PairRefused why place → RefusedDelta s at code why place
+    go (Value a n) f q = then a n f (deltaAt s (at + n) a) refl q
+    go (Refused w p) f q =
+        let r : deltaAt s at code ≡ Refused why place = cc in
+        first r (named at (deltaAt s at code) why place (delta-place s at code) r)
