@@ -20,7 +20,7 @@ pub fn run() {
 
 fn number(s: &[u8]) {
     say::text(b"the paper's");
-    say::hex(s);
+    show::hex(s);
     show::token(token::binary_uint(s, 0));
 }
 

@@ -1,4 +1,4 @@
-// Text, numbers and bytes on standard output.
+// Text and numbers on standard output.
 use libc::STDOUT_FILENO;
 
 pub fn text(s: &[u8]) {
@@ -11,18 +11,4 @@ pub fn number(n: u64) {
 
 pub fn line_end() {
     text(b"\n");
-}
-
-// Each byte as a space and two hexadecimal digits.
-pub fn hex(s: &[u8]) {
-    let mut i = 0;
-    while i < s.len() {
-        byte(s[i]);
-        i += 1;
-    }
-}
-
-fn byte(b: u8) {
-    text(b" ");
-    io::print_hex(STDOUT_FILENO, b as u64, 2);
 }

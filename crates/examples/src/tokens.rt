@@ -73,7 +73,7 @@ fn assigning() {
 
 fn delta(s: &[u8]) {
     say::text(b"delta from 6:");
-    say::hex(s);
+    show::hex(s);
     show::token(token::delta_code(s, 0, 6));
 }
 
@@ -90,7 +90,7 @@ fn deltas() {
 
 fn pair(s: &[u8], at: usize) {
     say::text(b"pair for 6:");
-    say::hex(s);
+    show::hex(s);
     say::text(b" at ");
     say::number(at as u64);
     show::pair(token::pair(s, at, 6));

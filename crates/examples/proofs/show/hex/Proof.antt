@@ -1,9 +1,9 @@
--- `say::hex` ends and reads within its bytes: `i` is at most the length, and what is left of it falls. Assumes nothing.
+-- `show::hex` ends and reads within its bytes: `i` is at most the length, and what is left of it falls. Assumes nothing.
 use Prim.Native.Nat.{_≤_, _-_}
 use lib.ListN.{length}
 use borrow.Author.Needs.{needs}
-use Rattle.examples.proofs.say.hex.Statement.{statement}
-use Rattle.examples.proofs.say.hex.Tie as tie
+use Rattle.examples.proofs.show.hex.Statement.{statement}
+use Rattle.examples.proofs.show.hex.Tie as tie
 
 abbrev Inv-loop : tie.InvT-loop
 Inv-loop s i₀ i = i ≤ length s
