@@ -64,19 +64,7 @@ one-pair κs a x y e f p q = p ∙ sym q
 
 -- 2. Examples.
 
--- document 01's starred tokens: reference 6
-pub starred :
-    -- `02` gives 4, `80 00` gives 6
-    (deltaAt (0x02 ∷ []) 0 6 ≡ Value 4 1)
-    × (deltaAt (0x80 ∷ 0x00 ∷ []) 0 6 ≡ Value 6 2)
-    -- `07` is 17, `80` is 15, eight `80` are 16
-    × (tokenNumber (deltaAt (0x07 ∷ []) 0 6) ≡ 17)
-    × (tokenNumber (deltaAt (0x80 ∷ []) 0 6) ≡ 15)
-    × (tokenNumber (deltaAt (0x80 ∷ 0x80 ∷ 0x80 ∷ 0x80 ∷ 0x80 ∷ 0x80 ∷ 0x80 ∷ 0x80 ∷ []) 0 6) ≡ 16)
-unfolding deltaAt binaryAt goOnAt
-starred = (refl, refl, refl, refl, refl)
-
--- its other tokens
+-- document 01's tokens; its starred ones are part of the theorem `starred` of the crate circuit, which states the whole starred list
 pub told :
     -- `0` is 0
     (uintAt (48 ∷ []) 0 ≡ Value 0 1)

@@ -1,0 +1,10 @@
+pub mod Refusals
+pub mod Graph
+pub mod Map
+pub mod Walk
+pub mod Circuit
+pub mod Ordered
+pub mod Outcome
+pub mod Claims
+pub mod Machine
+pub mod Lending

@@ -1,0 +1,30 @@
+-- Document 01's number and literal for each reason of refusal. Assumes nothing.
+use Prim.Native.Nat.{ℕ}
+use Rattle.lit.specs.Code.{literal}
+use Rattle.lit.specs.declared.Lit.{Lit}
+use Rattle.circuit.specs.declared.Refusal.{Refusal}
+use Rattle.circuit.specs.declared.Refusal.the-variants.{TooBig, Misshapen, Short, Over, Again, StateAgain, Undefined, Cycle, Deep}
+
+-- the number of a refusal
+abbrev pub refusalNumber : Refusal → ℕ
+refusalNumber TooBig = 1
+refusalNumber Misshapen = 2
+refusalNumber Short = 3
+refusalNumber (Over l) = 4
+refusalNumber (Again l) = 5
+refusalNumber (StateAgain l) = 6
+refusalNumber (Undefined l) = 7
+refusalNumber (Cycle l) = 8
+refusalNumber (Deep l) = 9
+
+-- the literal at fault; 0 where there is none
+abbrev pub refusalLiteral : Refusal → Lit
+refusalLiteral TooBig = literal 0
+refusalLiteral Misshapen = literal 0
+refusalLiteral Short = literal 0
+refusalLiteral (Over l) = l
+refusalLiteral (Again l) = l
+refusalLiteral (StateAgain l) = l
+refusalLiteral (Undefined l) = l
+refusalLiteral (Cycle l) = l
+refusalLiteral (Deep l) = l
