@@ -5,7 +5,7 @@ use mathlib.Core.List.{List, [], _∷_, _++_}
 use Prim.Native.Nat.{ℕ, _+_, _-_, _%_, _^_, _≤_, _<_}
 use lib.ListN.{length, getD, take, drop}
 use Rattle.token.specs.Format.{leading, isDigit, decimalValue, groupsValue, Grouped, digitsOf, shortest}
-use Rattle.token.specs.Answer.{digitsAt, uintAt, goOnAt, binaryAt, deltaAt, headerFieldAt, litAt, symbolIndexAt, pairAt, tokenNumber, pairNumber}
+use Rattle.token.specs.Answer.{digitsAt, uintAt, goOnAt, binaryAt, deltaAt, within, assigned, headerFieldAt, litAt, symbolIndexAt, pairAt, tokenNumber, pairNumber}
 use Rattle.token.specs.declared.Reason.{Reason}
 use Rattle.token.specs.declared.Reason.the-variants.{NoDigit, LeadingZero, OverWidth, OverLimit, AssignsZero, AssignsOdd, Cut, OverReference}
 use Rattle.token.specs.declared.Token.the-variants.{Value, Refused}
@@ -221,6 +221,11 @@ pub assigning-first : (s : List ℕ) (at v n limit : ℕ) → uintAt s at ≡ Va
     × (v % 2 ≡ 1 → litAt s at limit true ≡ Refused AssignsOdd at)
     × ((v ≡ 0 → ⊥) → v % 2 ≡ 0 → litAt s at limit true ≡ litAt s at limit false)
 assigning-first s at v n limit e = (refusals.assigns-zero s at v n limit e, refusals.assigns-odd s at v n limit e, refusals.assigns-even s at v n limit e)
+
+-- the limit tested before the sign is an error that looks like an improvement: assigning `7` with the limit 6 would be 12, and is 14
+pub limit-before-sign : (tokenNumber (assigned 0 (within 6 0 (uintAt (55 ∷ []) 0))) ≡ 12) × (tokenNumber (litAt (55 ∷ []) 0 6 true) ≡ 14)
+unfolding uintAt digitsAt litAt
+limit-before-sign = (refl, refl)
 
 -- the others test only 12, and a limit is inclusive
 pub limit-inclusive : (s : List ℕ) (at v n limit : ℕ) → uintAt s at ≡ Value v n → v ≤ limit
