@@ -1,5 +1,6 @@
 // Runs the documents' examples and prints a line for each. What is printed is held to the file `stdout` beside `src`, which was written from
 // the documents and not by this program.
+mod circuits;
 mod encodings;
 mod lits;
 mod say;
@@ -10,4 +11,5 @@ fn main() {
     lits::run();
     tokens::run();
     encodings::run();
+    circuits::run();
 }

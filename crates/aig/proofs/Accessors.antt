@@ -1,0 +1,50 @@
+-- Laws of the words that accessors read and write, one for each return of the code. Assumes nothing.
+use Prim.Native.Nat.{ℕ, _+_, _*_, _-_, _/_, _%_, _<_, _≤_}
+use mathlib.Core.Path.{_≡_}
+use mathlib.Core.Logic.{_≢_}
+use mathlib.Core.Bool.{false}
+use mathlib.Core.List.{List}
+use native.Mathlib.Omega.{arith}
+use lib.Dec.{eqb}
+use lib.ListN.{getD}
+use borrow.Author.Tests.{eq-eqb, ne-eqb, lt-ltb, le-ltb}
+use Rattle.lit.specs.Code.{literal}
+use Rattle.lit.specs.declared.Lit.{Lit}
+use Rattle.aig.specs.declared.shape.Shape.{Shape}
+use Rattle.aig.specs.declared.stack.Frame.the-variants.{First, Second}
+use Rattle.aig.specs.declared.defs.GateNumber.the-variants.{Number, Nothing}
+use Rattle.aig.specs.Table.{gateAt}
+use Rattle.aig.specs.Layout.{stackAt, stackOf}
+use Rattle.aig.specs.Stack.{inWord, middleIs}
+use Rattle.aig.proofs.Parts.{part-at}
+
+-- the table
+module _ (t : List ℕ) (v i d : ℕ) (e : i ≡ v) (f : d ≡ getD t i 0) where
+  pub no-gate : d < 2 → Nothing ≡ gateAt t v
+  unfolding gateAt
+  no-gate h = rw (← e, ← f, lt-ltb d 2 h)
+
+  pub a-gate : 2 ≤ d → Number (d - 2) ≡ gateAt t v
+  unfolding gateAt
+  a-gate h = rw (← e, ← f, le-ltb d 2 h)
+
+-- the stack
+module _ (s : Shape) (ws : List ℕ) (i : ℕ) (h : i < 2 * s .gates) where
+  at-stack : getD (stackOf s ws) i 0 ≡ getD ws (stackAt s + i) 0
+  at-stack = part-at (stackAt s) (2 * s .gates) ws i h
+
+  pub is-first : (l : Lit) → getD ws (stackAt s + i) 0 % 2 ≡ 0 → l ≡ literal (getD ws (stackAt s + i) 0 / 2) → First l ≡ inWord (getD (stackOf s ws) i 0)
+  unfolding inWord
+  is-first l z f = rw (at-stack, eq-eqb _ _ z, f)
+
+  pub is-second : (l : Lit) → getD ws (stackAt s + i) 0 % 2 ≢ 0 → l ≡ literal (getD ws (stackAt s + i) 0 / 2) → Second l ≡ inWord (getD (stackOf s ws) i 0)
+  unfolding inWord
+  is-second l z f = rw (at-stack, ne-eqb _ _ z, f)
+
+pub no-middle : (ws : List ℕ) (depth c : ℕ) → depth ≡ 0 → false ≡ middleIs ws depth c
+unfolding middleIs
+no-middle ws depth c e = rw (eq-eqb _ _ e)
+
+pub a-middle : (s : Shape) (ws : List ℕ) (depth c : ℕ) → depth ≢ 0 → depth ≤ 2 * s .gates → eqb (getD ws (stackAt s + depth / 2) 0 / 2) c ≡ middleIs (stackOf s ws) depth c
+unfolding middleIs
+a-middle s ws depth c n h = rw (ne-eqb _ _ n, at-stack s ws (depth / 2) (omega arith))

@@ -1,0 +1,28 @@
+-- `defs::gate_of`: a word below 2 names no gate, any other the gate that many less 2. Assumes nothing.
+use borrow.Author.Needs.{needs}
+use Rattle.aig.proofs.defs.gate_of.Statement.{statement}
+use Rattle.aig.proofs.defs.gate_of.Tie as tie
+use Rattle.aig.proofs.Accessors.{no-gate, a-gate}
+
+place-of-requires : tie.Need-place-of-requires
+place-of-requires c κs = search needs
+
+mul-wide : tie.Need-mul-wide
+mul-wide c = search needs
+
+shared-slice-read-wide : tie.Need-shared-slice-read-wide
+shared-slice-read-wide c = search needs
+
+wide-requires : tie.Need-wide-requires
+wide-requires c κs = search needs
+
+returns : tie.Need-returns
+returns c = no-gate _ _ (c .before .before .before .place-of .result) (c .before .wide .result) (cc) (cc) (c .if1 .taken)
+
+returns-2 : tie.Need-returns-2
+returns-2 c = a-gate _ _ (c .before .before .before .place-of .result) (c .before .wide .result) (cc) (cc) (c .if1 .left)
+
+pub gate-of-spec : {M : Type 1} → statement M
+gate-of-spec =
+    tie.close
+    (tie.spec place-of-requires mul-wide shared-slice-read-wide wide-requires returns returns-2)

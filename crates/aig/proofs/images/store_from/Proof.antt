@@ -1,0 +1,71 @@
+-- `images::store_from` meets its contract: what is left to store falls by one literal a turn. Assumes nothing.
+use borrow.Author.Needs.{needs}
+use Rattle.aig.proofs.images.store_from.Statement.{statement}
+use Rattle.aig.proofs.images.store_from.Tie as tie
+use native.Mathlib.Omega.{arith}
+use Prim.Native.Nat.{_≤_, _-_, _+_, _*_}
+use mathlib.Core.Path.{_≡_, sym, _∙_}
+use lib.ListN.{length, drop}
+use Rattle.circuit.specs.Circuit.{storeFrom}
+use Rattle.aig.proofs.Entries.{storeFrom-on, storeFrom-end}
+
+abbrev Inv-loop : tie.InvT-loop
+Inv-loop map₀ literals first i₀ code₀ map i code = (i ≤ length literals) × (code ≡ first + 2 * i) × (length map ≡ length map₀) × (storeFrom map₀ first literals ≡ storeFrom map code (drop i literals))
+
+abbrev μ-loop : tie.MeasureT-loop
+μ-loop map₀ literals first i₀ code₀ map i code = length literals - i
+
+loop-holds : tie.Need-loop-holds Inv-loop μ-loop
+loop-holds c = search needs
+
+mul-from-code : tie.Need-mul-from-code Inv-loop μ-loop
+mul-from-code c = search needs
+
+shared-slice-read-from-code : tie.Need-shared-slice-read-from-code Inv-loop μ-loop
+shared-slice-read-from-code c = search needs
+
+from-code-requires : tie.Need-from-code-requires Inv-loop μ-loop
+from-code-requires c κs = search needs
+
+from-code-requires-2 : tie.Need-from-code-requires-2 Inv-loop μ-loop
+from-code-requires-2 c κs = search needs
+
+insert-requires : tie.Need-insert-requires Inv-loop μ-loop
+insert-requires c κs = search needs
+
+add-i : tie.Need-add-i Inv-loop μ-loop
+add-i c = search needs
+
+add-code : tie.Need-add-code Inv-loop μ-loop
+add-code c = search needs
+
+loop-less : tie.Need-loop-less Inv-loop μ-loop
+loop-less c = search needs
+
+loop-again : tie.Need-loop-again Inv-loop μ-loop
+loop-again c = (omega arith, omega arith, (cc), c .before .before .before .before .before .before .before .before .loop .inv .3 ∙ storeFrom-on _ _ _ _ _ _ _ (c .before .before .before .before .before .before .before .loop-test .taken) (c .before .before .before .before .from-code .ensures) (c .before .before .before .from-code2 .ensures) (c .before .before .insert .ensures))
+
+same-length : tie.Need-same-length Inv-loop μ-loop
+same-length c = search needs
+
+returns : tie.Need-returns Inv-loop μ-loop
+returns c = sym (c .before .loop .inv .3 ∙ storeFrom-end _ _ _ _ (c .loop-test .left))
+
+pub store-from-spec : {M : Type 1} → statement M
+store-from-spec =
+    tie.close
+    (tie.spec
+    Inv-loop
+    μ-loop
+    loop-holds
+    mul-from-code
+    shared-slice-read-from-code
+    from-code-requires
+    from-code-requires-2
+    insert-requires
+    add-i
+    add-code
+    loop-less
+    loop-again
+    same-length
+    returns)

@@ -1,0 +1,77 @@
+-- `renumber` meets its contract: checks 1 to 4 refuse at once, or leave the outcome to renumbering (proofs/Passing.antt). Assumes nothing.
+use borrow.Author.Needs.{needs}
+use Rattle.aig.proofs.renumber.Statement.{statement}
+use Rattle.aig.proofs.renumber.Tie as tie
+use denote.Ref.{now}
+use mathlib.Core.Path.{sym, _∙_}
+use Rattle.circuit.specs.Outcome.{lentOf}
+use Rattle.aig.proofs.Passing.{passed, concludes, failed}
+
+checked-requires : tie.Need-checked-requires
+checked-requires c κs = search needs
+
+enum-told : tie.Need-enum-told
+enum-told c = search needs
+
+renumber-fronts-requires : tie.Need-renumber-fronts-requires
+renumber-fronts-requires c κs = let a = c .before .before .before .before .before .before .before .before .before .before .before .before .before .before .before .before .before .before .before .before .before .before .before .args in passed (lentOf (a .circuit) (now (a .inputs)) (now (a .states)) (now (a .nexts)) (now (a .gates)) (now (a .roots)) (now (a .map)) (now (a .next-images)) (now (a .root-images)) (now (a .gates-out)) (now (a .scratch))) (sym (c .before .before .before .before .before .before .before .checked .ensures) ∙ c .before .before .before .before .before .enum-told .given .1)
+
+enum-known-check : tie.Need-enum-known-check
+enum-known-check c = search needs
+
+same-length : tie.Need-same-length
+same-length c = search needs
+
+same-length-2 : tie.Need-same-length-2
+same-length-2 c = search needs
+
+same-length-3 : tie.Need-same-length-3
+same-length-3 c = search needs
+
+same-length-4 : tie.Need-same-length-4
+same-length-4 c = search needs
+
+same-length-5 : tie.Need-same-length-5
+same-length-5 c = search needs
+
+returns : tie.Need-returns
+returns c = let a = c .before .before .before .before .before .before .before .before .before .before .before .before .before .before .before .before .before .before .before .before .before .before .before .before .before .before .before .before .before .before .before .before .before .before .args in c .before .before .before .before .before .before .before .before .before .before .renumber-fronts .ensures ∙ concludes (lentOf (a .circuit) (now (a .inputs)) (now (a .states)) (now (a .nexts)) (now (a .gates)) (now (a .roots)) (now (a .map)) (now (a .next-images)) (now (a .root-images)) (now (a .gates-out)) (now (a .scratch))) (passed (lentOf (a .circuit) (now (a .inputs)) (now (a .states)) (now (a .nexts)) (now (a .gates)) (now (a .roots)) (now (a .map)) (now (a .next-images)) (now (a .root-images)) (now (a .gates-out)) (now (a .scratch))) (sym (c .before .before .before .before .before .before .before .before .before .before .before .before .before .before .before .before .before .before .checked .ensures) ∙ c .before .before .before .before .before .before .before .before .before .before .before .before .before .before .before .before .enum-told .given .1))
+
+same-length-6 : tie.Need-same-length-6
+same-length-6 c = search needs
+
+same-length-7 : tie.Need-same-length-7
+same-length-7 c = search needs
+
+same-length-8 : tie.Need-same-length-8
+same-length-8 c = search needs
+
+same-length-9 : tie.Need-same-length-9
+same-length-9 c = search needs
+
+same-length-10 : tie.Need-same-length-10
+same-length-10 c = search needs
+
+returns-2 : tie.Need-returns-2
+returns-2 c = let a = c .before .before .before .before .before .before .before .before .before .before .before .before .before .before .before .before .before .before .before .args in failed (lentOf (a .circuit) (now (a .inputs)) (now (a .states)) (now (a .nexts)) (now (a .gates)) (now (a .roots)) (now (a .map)) (now (a .next-images)) (now (a .root-images)) (now (a .gates-out)) (now (a .scratch))) _ (sym (c .before .before .before .checked .ensures) ∙ c .before .check .given .1)
+
+pub renumber-spec : {M : Type 1} → statement M
+renumber-spec =
+    tie.close
+    (tie.spec
+    checked-requires
+    enum-told
+    renumber-fronts-requires
+    enum-known-check
+    same-length
+    same-length-2
+    same-length-3
+    same-length-4
+    same-length-5
+    returns
+    same-length-6
+    same-length-7
+    same-length-8
+    same-length-9
+    same-length-10
+    returns-2)

@@ -1,0 +1,44 @@
+-- `stack::middle`: the word at half the depth holds the literal doubled. Assumes nothing.
+use borrow.Author.Needs.{needs}
+use Rattle.aig.proofs.stack.middle.Statement.{statement}
+use Rattle.aig.proofs.stack.middle.Tie as tie
+use Rattle.aig.proofs.Accessors.{no-middle, a-middle}
+
+returns : tie.Need-returns
+returns c = no-middle _ _ _ (c .if1 .taken)
+
+mul-at : tie.Need-mul-at
+mul-at c = search needs
+
+add-at : tie.Need-add-at
+add-at c = search needs
+
+add-at-2 : tie.Need-add-at-2
+add-at-2 c = search needs
+
+mul-word : tie.Need-mul-word
+mul-word c = search needs
+
+shared-slice-read-word : tie.Need-shared-slice-read-word
+shared-slice-read-word c = search needs
+
+code-requires : tie.Need-code-requires
+code-requires c κs = search needs
+
+returns-2 : tie.Need-returns-2
+returns-2 c =
+    let a = c .before .before .before .before .before .before .args in
+    cc (a-middle (a .shape) (a .scratch .now) (a .depth) (a .lit .0) (c .before .before .before .before .if1 .left) (c .before .before .before .before .before .before .pre .1))
+
+pub middle-spec : {M : Type 1} → statement M
+middle-spec =
+    tie.close
+    (tie.spec
+    returns
+    mul-at
+    add-at
+    add-at-2
+    mul-word
+    shared-slice-read-word
+    code-requires
+    returns-2)

@@ -1,0 +1,50 @@
+-- `stack::word_of`: a literal's code is below 2 ^ 31, so its double and one more fit a word. Assumes nothing.
+use borrow.Author.Needs.{needs}
+use Rattle.aig.proofs.stack.word_of.Statement.{statement}
+use Rattle.aig.proofs.stack.word_of.Tie as tie
+use native.Mathlib.Omega.{arith}
+use mathlib.Core.Path.{subst}
+use Prim.Native.Nat.{_<_, _^_}
+use Rattle.aig.specs.declared.stack.Frame.{Frame}
+use Rattle.aig.specs.Stack.{frameOf}
+
+enum-known-frame : tie.Need-enum-known-frame
+enum-known-frame c = search needs
+
+code-requires : tie.Need-code-requires
+code-requires c κs = search needs
+
+mul-result : tie.Need-mul-result
+mul-result c = record { fits = omega (arith, subst (λ (f : Frame). frameOf f .lit < 2 ^ 31) (c .before .before .frame .given .1) (c .before .before .before .before .pre)) }
+
+enum-known-frame-2 : tie.Need-enum-known-frame-2
+enum-known-frame-2 c = search needs
+
+code-requires-2 : tie.Need-code-requires-2
+code-requires-2 c κs = search needs
+
+mul-result-2 : tie.Need-mul-result-2
+mul-result-2 c = record { fits = omega (arith, subst (λ (f : Frame). frameOf f .lit < 2 ^ 31) (c .before .before .frame2 .given .1) (c .before .before .before .before .pre)) }
+
+add-result : tie.Need-add-result
+add-result c = record { fits = omega (arith, subst (λ (f : Frame). frameOf f .lit < 2 ^ 31) (c .before .before .frame2 .given .1) (c .before .before .before .before .pre)) }
+
+returns : tie.Need-returns
+returns c = rw (c .before .before .frame .given .1) (omega arith)
+
+returns-2 : tie.Need-returns-2
+returns-2 c = rw (c .before .before .frame2 .given .1) (omega arith)
+
+pub word-of-spec : {M : Type 1} → statement M
+word-of-spec =
+    tie.close
+    (tie.spec
+    enum-known-frame
+    code-requires
+    mul-result
+    enum-known-frame-2
+    code-requires-2
+    mul-result-2
+    add-result
+    returns
+    returns-2)

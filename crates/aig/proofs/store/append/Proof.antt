@@ -1,0 +1,53 @@
+-- `store::append`: two stores. Assumes nothing.
+use borrow.Author.Needs.{needs}
+use Rattle.aig.proofs.store.append.Statement.{statement}
+use Rattle.aig.proofs.store.append.Tie as tie
+
+code-requires : tie.Need-code-requires
+code-requires c κs = search needs
+
+mul-out : tie.Need-mul-out
+mul-out c = search needs
+
+mul-out-2 : tie.Need-mul-out-2
+mul-out-2 c = search needs
+
+slice-write-out : tie.Need-slice-write-out
+slice-write-out c = search needs
+
+code-requires-2 : tie.Need-code-requires-2
+code-requires-2 c κs = search needs
+
+mul-out-3 : tie.Need-mul-out-3
+mul-out-3 c = search needs
+
+add-out : tie.Need-add-out
+add-out c = search needs
+
+mul-out-4 : tie.Need-mul-out-4
+mul-out-4 c = search needs
+
+slice-write-out-2 : tie.Need-slice-write-out-2
+slice-write-out-2 c = search needs
+
+same-length : tie.Need-same-length
+same-length c = search needs
+
+returns : tie.Need-returns
+returns c = cc
+
+pub append-spec : {M : Type 1} → statement M
+append-spec =
+    tie.close
+    (tie.spec
+    code-requires
+    mul-out
+    mul-out-2
+    slice-write-out
+    code-requires-2
+    mul-out-3
+    add-out
+    mul-out-4
+    slice-write-out-2
+    same-length
+    returns)

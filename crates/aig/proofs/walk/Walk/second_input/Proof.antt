@@ -1,0 +1,117 @@
+-- `Walk::second_input`: both images are there, since the entry's inputs have been walked; so settling is the machine's step. Assumes nothing.
+use borrow.Author.Needs.{needs}
+use Rattle.aig.proofs.walk.Walk.second_input.Statement.{statement}
+use Rattle.aig.proofs.walk.Walk.second_input.Tie as tie
+use mathlib.Core.Path.{sym, _∙_}
+use Rattle.aig.specs.Settle.{left}
+use Rattle.aig.proofs.Closing.{second-none, second-reads, first-is-there, second-is-there, can-settle, second-settled}
+use Rattle.aig.proofs.Reading.{second-place}
+
+gate-of-requires : tie.Need-gate-of-requires
+gate-of-requires c κs = second-place (c .before .before .before .before .before .pre)
+
+enum-known-number : tie.Need-enum-known-number
+enum-known-number c = search needs
+
+enum-told : tie.Need-enum-told
+enum-told c = search needs
+
+same-length : tie.Need-same-length
+same-length c = search needs
+
+returns : tie.Need-returns
+returns c = λ sources o k. second-none k (cc)
+
+first-of-requires : tie.Need-first-of-requires
+first-of-requires c κs = second-reads (c .before .before .before .before .before .before .before .before .before .pre .going) (sym (c .before .before .before .gate-of .ensures) ∙ c .before .number .given .1)
+
+image-requires : tie.Need-image-requires
+image-requires c κs = search needs
+
+enum-known-image : tie.Need-enum-known-image
+enum-known-image c = search needs
+
+enum-told-2 : tie.Need-enum-told-2
+enum-told-2 c = search needs
+
+same-length-2 : tie.Need-same-length-2
+same-length-2 c = search needs
+
+same-length-3 : tie.Need-same-length-3
+same-length-3 c = search needs
+
+returns-2 : tie.Need-returns-2
+returns-2 c = λ sources o k. absurd (first-is-there k (sym (c .before .before .before .before .before .before .before .before .gate-of .ensures) ∙ c .before .before .before .before .before .before .number .given .1) (c .before .before .before .before .first-of .ensures) (c .before .before .image .ensures) (cc))
+
+second-of-requires : tie.Need-second-of-requires
+second-of-requires c κs = second-reads (c .before .before .before .before .before .before .before .before .before .before .before .before .before .before .before .pre .going) (sym (c .before .before .before .before .before .before .before .before .before .gate-of .ensures) ∙ c .before .before .before .before .before .before .before .number .given .1)
+
+image-requires-2 : tie.Need-image-requires-2
+image-requires-2 c κs = search needs
+
+enum-known-image-2 : tie.Need-enum-known-image-2
+enum-known-image-2 c = search needs
+
+enum-told-3 : tie.Need-enum-told-3
+enum-told-3 c = search needs
+
+same-length-4 : tie.Need-same-length-4
+same-length-4 c = search needs
+
+same-length-5 : tie.Need-same-length-5
+same-length-5 c = search needs
+
+returns-3 : tie.Need-returns-3
+returns-3 c = λ sources o k. absurd (second-is-there k (sym (c .before .before .before .before .before .before .before .before .before .before .before .before .before .before .gate-of .ensures) ∙ c .before .before .before .before .before .before .before .before .before .before .before .before .number .given .1) (c .before .before .before .before .second-of .ensures) (c .before .before .image3 .ensures) (cc))
+
+output-of-requires : tie.Need-output-of-requires
+output-of-requires c κs = second-reads (c .before .before .before .before .before .before .before .before .before .before .before .before .before .before .before .before .before .before .before .before .before .pre .going) (sym (c .before .before .before .before .before .before .before .before .before .before .before .before .before .before .before .gate-of .ensures) ∙ c .before .before .before .before .before .before .before .before .before .before .before .before .before .number .given .1)
+
+of-requires : tie.Need-of-requires
+of-requires c κs = search needs
+
+settle-requires : tie.Need-settle-requires
+settle-requires c κs = can-settle (c .before .before .before .before .before .before .before .before .before .before .before .before .before .before .before .before .before .before .before .before .before .before .before .before .before .before .pre .going) (sym (c .before .before .before .before .before .before .before .before .before .before .before .before .before .before .before .before .before .before .before .before .gate-of .ensures) ∙ c .before .before .before .before .before .before .before .before .before .before .before .before .before .before .before .before .before .before .number .given .1) (c .before .before .before .before .before .before .before .before .before .before .before .before .before .before .before .before .first-of .ensures) (c .before .before .before .before .before .before .before .before .before .before .second-of .ensures) (c .before .before .before .before .before .before .before .before .before .before .before .before .before .before .image .ensures) (c .before .before .before .before .before .before .before .before .image3 .ensures) (c .before .before .before .before .before .before .before .before .before .before .before .before .image2 .given .1) (c .before .before .before .before .before .before .image4 .given .1) (c .before .before .before .of .ensures)
+
+same-length-6 : tie.Need-same-length-6
+same-length-6 c = search needs
+
+same-length-7 : tie.Need-same-length-7
+same-length-7 c = search needs
+
+same-length-8 : tie.Need-same-length-8
+same-length-8 c = search needs
+
+returns-4 : tie.Need-returns-4
+returns-4 c = λ sources o k. second-settled k (sym (c .before .before .before .before .before .before .before .before .before .before .before .before .before .before .before .before .before .before .before .before .before .before .before .before .before .before .before .gate-of .ensures) ∙ c .before .before .before .before .before .before .before .before .before .before .before .before .before .before .before .before .before .before .before .before .before .before .before .before .before .number .given .1) (c .before .before .before .before .before .before .before .before .before .before .before .before .before .before .before .before .before .before .before .before .before .before .before .first-of .ensures) (c .before .before .before .before .before .before .before .before .before .before .before .before .before .before .before .before .before .second-of .ensures) (c .before .before .before .before .before .before .before .before .before .before .before .before .before .before .before .before .before .before .before .before .before .image .ensures) (c .before .before .before .before .before .before .before .before .before .before .before .before .before .before .before .image3 .ensures) (c .before .before .before .before .before .before .before .before .before .before .before .before .before .before .before .before .before .before .before .image2 .given .1) (c .before .before .before .before .before .before .before .before .before .before .before .before .before .image4 .given .1) (c .before .before .before .before .before .before .before .before .before .before .of .ensures) (left _ _ _ _) (c .before .before .before .before .before .before .before .before .before .before .before .output-of .ensures) (c .before .before .before .before .before .before .settle .ensures (k .goes .work .made) (k .goes .holds .gatesMade))
+
+pub second-input-spec : {M : Type 1} → statement M
+second-input-spec =
+    tie.close
+    (tie.spec
+    gate-of-requires
+    enum-known-number
+    enum-told
+    same-length
+    returns
+    first-of-requires
+    image-requires
+    enum-known-image
+    enum-told-2
+    same-length-2
+    same-length-3
+    returns-2
+    second-of-requires
+    image-requires-2
+    enum-known-image-2
+    enum-told-3
+    same-length-4
+    same-length-5
+    returns-3
+    output-of-requires
+    of-requires
+    settle-requires
+    same-length-6
+    same-length-7
+    same-length-8
+    returns-4)

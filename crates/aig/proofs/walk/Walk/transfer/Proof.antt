@@ -1,0 +1,99 @@
+-- `Walk::transfer`: each return is a case of the machine's look at a literal, tested in its order. Assumes nothing.
+use borrow.Author.Needs.{needs}
+use Rattle.aig.proofs.walk.Walk.transfer.Statement.{statement}
+use Rattle.aig.proofs.walk.Walk.transfer.Tie as tie
+use native.Mathlib.Omega.{arith}
+use mathlib.Core.Path.{sym, _∙_}
+use Rattle.aig.proofs.Transferring.{transfer-mapped, transfer-cycle, transfer-undefined, transfer-deep, transfer-enter, as-transfer}
+use Rattle.aig.proofs.Reading.{transfer-reads, transfer-depth}
+
+image-requires : tie.Need-image-requires
+image-requires c κs = search needs
+
+enum-known-image : tie.Need-enum-known-image
+enum-known-image c = search needs
+
+returns : tie.Need-returns
+returns c = λ out sources o k. transfer-mapped k (sym (c .before .before .before .image .ensures) ∙ c .before .image2 .given .1)
+
+enum-told : tie.Need-enum-told
+enum-told c = search needs
+
+middle-requires : tie.Need-middle-requires
+middle-requires c κs =
+    let p = c .before .before .before .before .before .before .before .pre in
+    (transfer-reads (p .1) .room, transfer-depth (p .1))
+
+same-length : tie.Need-same-length
+same-length c = search needs
+
+returns-2 : tie.Need-returns-2
+returns-2 c = λ out sources o k. transfer-cycle k (cc) (cc)
+
+gate-of-requires : tie.Need-gate-of-requires
+gate-of-requires c κs = transfer-reads (c .before .before .before .before .before .before .before .before .before .before .pre .1) .inTable
+
+enum-known-number : tie.Need-enum-known-number
+enum-known-number c = search needs
+
+enum-told-2 : tie.Need-enum-told-2
+enum-told-2 c = search needs
+
+same-length-2 : tie.Need-same-length-2
+same-length-2 c = search needs
+
+returns-3 : tie.Need-returns-3
+returns-3 c = λ out sources o k. transfer-undefined k (cc) (cc) (cc)
+
+mul-if2 : tie.Need-mul-if2
+mul-if2 c = search needs
+
+same-length-3 : tie.Need-same-length-3
+same-length-3 c = search needs
+
+returns-4 : tie.Need-returns-4
+returns-4 c = λ out sources o k. transfer-deep k (cc) (cc) (sym (c .before .before .before .before .before .before .gate-of .ensures) ∙ c .before .before .before .before .number .given .1) (c .if2 .taken)
+
+push-requires : tie.Need-push-requires
+push-requires c κs =
+    let p = c .before .before .before .before .before .before .before .before .before .before .before .before .before .before .before .before .before .before .pre in
+    (transfer-reads (p .1) .room, omega (arith, transfer-depth (p .1), c .before .if2 .left), transfer-reads (p .1) .code)
+
+deeper-requires : tie.Need-deeper-requires
+deeper-requires c κs =
+    let p = c .before .before .before .before .before .before .before .before .before .before .before .before .before .before .before .before .before .before .before .before .before .pre in
+    omega (arith, transfer-depth (p .1), transfer-reads (p .1) .room .gates)
+
+first-of-requires : tie.Need-first-of-requires
+first-of-requires c κs = transfer-reads (c .before .before .before .before .before .before .before .before .before .before .before .before .before .before .before .before .before .before .before .before .before .before .pre .1) .number _ (sym (c .before .before .before .before .before .before .before .before .before .before .before .gate-of .ensures) ∙ c .before .before .before .before .before .before .before .before .before .number .given .1)
+
+same-length-4 : tie.Need-same-length-4
+same-length-4 c = search needs
+
+returns-5 : tie.Need-returns-5
+returns-5 c = λ out sources o k. as-transfer (c .before .deeper .ensures) (c .first-of .ensures) (c .before .before .before .before .push .ensures) (transfer-enter k (cc) (cc) (sym (c .before .before .before .before .before .before .before .before .before .before .before .before .gate-of .ensures) ∙ c .before .before .before .before .before .before .before .before .before .before .number .given .1) (c .before .before .before .before .before .before .if2 .left))
+
+pub transfer-spec : {M : Type 1} → statement M
+transfer-spec =
+    tie.close
+    (tie.spec
+    image-requires
+    enum-known-image
+    returns
+    enum-told
+    middle-requires
+    same-length
+    returns-2
+    gate-of-requires
+    enum-known-number
+    enum-told-2
+    same-length-2
+    returns-3
+    mul-if2
+    same-length-3
+    returns-4
+    push-requires
+    deeper-requires
+    first-of-requires
+    same-length-4
+    returns-5)

@@ -1,0 +1,34 @@
+-- `already`: the first of two answers that there is. Assumes nothing.
+use borrow.Author.Needs.{needs}
+use Rattle.aig.proofs.walk.already.Statement.{statement}
+use Rattle.aig.proofs.walk.already.Tie as tie
+use Rattle.aig.proofs.Folds.{first-stands, second-stands}
+use Rattle.circuit.specs.Walk.{foldedIf}
+use Rattle.aig.specs.Already.{madeIf}
+
+folded-if-requires : tie.Need-folded-if-requires
+folded-if-requires c κs = search needs
+
+enum-known-folded : tie.Need-enum-known-folded
+enum-known-folded c = search needs
+
+enum-told : tie.Need-enum-told
+enum-told c = search needs
+
+found-if-requires : tie.Need-found-if-requires
+found-if-requires c κs = search needs
+
+returns : tie.Need-returns
+returns c =
+    let a = c .before .before .before .before .before .before .args in
+    λ made m. first-stands (foldedIf (a .shape .fold) (a .pair .larger .0) (a .pair .smaller .0)) (madeIf (a .shape) made (a .pair)) _ (cc)
+
+returns-2 : tie.Need-returns-2
+returns-2 c =
+    let a = c .before .before .before .before .before .before .args in
+    λ made m. second-stands (foldedIf (a .shape .fold) (a .pair .larger .0) (a .pair .smaller .0)) (madeIf (a .shape) made (a .pair)) _ (cc) (c .found-if .ensures made m)
+
+pub already-spec : {M : Type 1} → statement M
+already-spec =
+    tie.close
+    (tie.spec folded-if-requires enum-known-folded enum-told found-if-requires returns returns-2)

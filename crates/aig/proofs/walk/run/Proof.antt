@@ -1,0 +1,127 @@
+-- `run`: each turn is a step that keeps what the start came to, with less to go; the end is what it came to. Assumes nothing.
+use borrow.Author.Needs.{needs}
+use Rattle.aig.proofs.walk.run.Statement.{statement}
+use Rattle.aig.proofs.walk.run.Tie as tie
+use Rattle.aig.proofs.Looping.{Loops, loops-start, loops-as, loops-again, loops-less, loops-reached, loops-stopped, map-kept, out-kept, scratch-kept}
+use Rattle.aig.specs.Turns.{toGo}
+
+abbrev Inv-loop : tie.InvT-loop
+Inv-loop shape gates map₀ out₀ scratch₀ state₀ map out scratch state = Loops shape gates state₀ map₀ out₀ scratch₀ state map out scratch
+
+abbrev μ-loop : tie.MeasureT-loop
+μ-loop shape gates map₀ out₀ scratch₀ state₀ map out scratch state = toGo shape gates state map scratch
+
+loop-holds : tie.Need-loop-holds Inv-loop μ-loop
+loop-holds c = loops-start (c .before .before .before .before .pre)
+
+enum-known-state : tie.Need-enum-known-state Inv-loop μ-loop
+enum-known-state c = search needs
+
+transfer-requires : tie.Need-transfer-requires Inv-loop μ-loop
+transfer-requires c κs = (_, loops-as (c .before .before .before .before .before .loop .inv) (c .before .before .before .state .given .1))
+
+loop-less : tie.Need-loop-less Inv-loop μ-loop
+loop-less c = loops-less (c .before .before .before .before .before .before .before .before .loop .inv) (c .before .before .before .before .before .before .state .given .1) (c .before .before .transfer .ensures _)
+
+loop-again : tie.Need-loop-again Inv-loop μ-loop
+loop-again c = loops-again (c .before .before .before .before .before .before .before .before .loop .inv) (c .before .before .before .before .before .before .state .given .1) (c .before .before .transfer .ensures _)
+
+enum-known-state-2 : tie.Need-enum-known-state-2 Inv-loop μ-loop
+enum-known-state-2 c = search needs
+
+first-input-requires : tie.Need-first-input-requires Inv-loop μ-loop
+first-input-requires c κs = (_, _, loops-as (c .before .before .before .before .loop .inv) (c .before .before .state2 .given .1))
+
+loop-less-2 : tie.Need-loop-less-2 Inv-loop μ-loop
+loop-less-2 c = loops-less (c .before .before .before .before .before .before .before .loop .inv) (c .before .before .before .before .before .state2 .given .1) (c .before .before .first-input .ensures _ _)
+
+loop-again-2 : tie.Need-loop-again-2 Inv-loop μ-loop
+loop-again-2 c = loops-again (c .before .before .before .before .before .before .before .loop .inv) (c .before .before .before .before .before .state2 .given .1) (c .before .before .first-input .ensures _ _)
+
+enum-known-state-3 : tie.Need-enum-known-state-3 Inv-loop μ-loop
+enum-known-state-3 c = search needs
+
+second-input-requires : tie.Need-second-input-requires Inv-loop μ-loop
+second-input-requires c κs = loops-as (c .before .before .before .before .before .before .loop .inv) (c .before .before .before .before .state3 .given .1)
+
+loop-less-3 : tie.Need-loop-less-3 Inv-loop μ-loop
+loop-less-3 c = loops-less (c .before .before .before .before .before .before .before .before .before .before .before .before .before .loop .inv) (c .before .before .before .before .before .before .before .before .before .before .before .state3 .given .1) (c .before .before .before .before .before .before .second-input .ensures)
+
+loop-again-3 : tie.Need-loop-again-3 Inv-loop μ-loop
+loop-again-3 c = loops-again (c .before .before .before .before .before .before .before .before .before .before .before .before .before .loop .inv) (c .before .before .before .before .before .before .before .before .before .before .before .state3 .given .1) (c .before .before .before .before .before .before .second-input .ensures)
+
+enum-known-state-4 : tie.Need-enum-known-state-4 Inv-loop μ-loop
+enum-known-state-4 c = search needs
+
+back-requires : tie.Need-back-requires Inv-loop μ-loop
+back-requires c κs = (_, _, _, loops-as (c .before .before .before .before .loop .inv) (c .before .before .state4 .given .1))
+
+loop-less-4 : tie.Need-loop-less-4 Inv-loop μ-loop
+loop-less-4 c = loops-less (c .before .before .before .before .before .loop .inv) (c .before .before .before .state4 .given .1) (c .back .ensures _ _ _)
+
+loop-again-4 : tie.Need-loop-again-4 Inv-loop μ-loop
+loop-again-4 c = loops-again (c .before .before .before .before .before .loop .inv) (c .before .before .before .state4 .given .1) (c .back .ensures _ _ _)
+
+enum-known-state-5 : tie.Need-enum-known-state-5 Inv-loop μ-loop
+enum-known-state-5 c = search needs
+
+same-length : tie.Need-same-length Inv-loop μ-loop
+same-length c = map-kept (c .before .before .before .loop .inv) (c .before .before .before .before .before .before .before .before .pre)
+
+same-length-2 : tie.Need-same-length-2 Inv-loop μ-loop
+same-length-2 c = out-kept (c .before .before .before .loop .inv) (c .before .before .before .before .before .before .before .before .pre)
+
+same-length-3 : tie.Need-same-length-3 Inv-loop μ-loop
+same-length-3 c = scratch-kept (c .before .before .before .loop .inv) (c .before .before .before .before .before .before .before .before .pre)
+
+returns : tie.Need-returns Inv-loop μ-loop
+returns c = loops-reached (c .before .before .before .loop .inv) (c .before .state5 .given .1)
+
+enum-known-state-6 : tie.Need-enum-known-state-6 Inv-loop μ-loop
+enum-known-state-6 c = search needs
+
+same-length-4 : tie.Need-same-length-4 Inv-loop μ-loop
+same-length-4 c = map-kept (c .before .before .before .loop .inv) (c .before .before .before .before .before .before .before .before .pre)
+
+same-length-5 : tie.Need-same-length-5 Inv-loop μ-loop
+same-length-5 c = out-kept (c .before .before .before .loop .inv) (c .before .before .before .before .before .before .before .before .pre)
+
+same-length-6 : tie.Need-same-length-6 Inv-loop μ-loop
+same-length-6 c = scratch-kept (c .before .before .before .loop .inv) (c .before .before .before .before .before .before .before .before .pre)
+
+returns-2 : tie.Need-returns-2 Inv-loop μ-loop
+returns-2 c = loops-stopped (c .before .before .before .loop .inv) (c .before .state6 .given .1)
+
+pub run-spec : {M : Type 1} → statement M
+run-spec =
+    tie.close
+    (tie.spec
+    Inv-loop
+    μ-loop
+    loop-holds
+    enum-known-state
+    transfer-requires
+    loop-less
+    loop-again
+    enum-known-state-2
+    first-input-requires
+    loop-less-2
+    loop-again-2
+    enum-known-state-3
+    second-input-requires
+    loop-less-3
+    loop-again-3
+    enum-known-state-4
+    back-requires
+    loop-less-4
+    loop-again-4
+    enum-known-state-5
+    same-length
+    same-length-2
+    same-length-3
+    returns
+    enum-known-state-6
+    same-length-4
+    same-length-5
+    same-length-6
+    returns-2)

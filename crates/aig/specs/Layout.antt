@@ -1,0 +1,42 @@
+-- Where the scratch words have what: the definitions table, chain heads, chain nexts, the stack. Assumes nothing.
+use Prim.Native.Nat.{ℕ, _+_, _*_, _<_, _≤_}
+use mathlib.Core.Path.{_≡_}
+use mathlib.Core.List.{List}
+use lib.ListN.{length, take, drop}
+use Rattle.aig.specs.declared.shape.Shape.{Shape}
+
+-- `size` words from the place `from` on
+abbrev pub part : ℕ → ℕ → List ℕ → List ℕ
+part from size ws = take size (drop from ws)
+
+abbrev pub headsAt : Shape → ℕ
+headsAt s = s .vars
+
+abbrev pub nextsAt : Shape → ℕ
+nextsAt s = 3 * s .vars
+
+abbrev pub stackAt : Shape → ℕ
+stackAt s = 3 * s .vars + s .gates
+
+-- a word for each variable
+abbrev pub tableOf : Shape → List ℕ → List ℕ
+tableOf s ws = take (s .vars) ws
+
+-- a head for each code
+abbrev pub headsOf : Shape → List ℕ → List ℕ
+headsOf s ws = part (headsAt s) (2 * s .vars) ws
+
+-- a next for each gate
+abbrev pub nextsOf : Shape → List ℕ → List ℕ
+nextsOf s ws = part (nextsAt s) (s .gates) ws
+
+-- two entries for each gate
+abbrev pub stackOf : Shape → List ℕ → List ℕ
+stackOf s ws = part (stackAt s) (2 * s .gates) ws
+
+-- the sizes are those that the checks leave, and the scratch words are as many as the parts have
+pub record Room (s : Shape) (scratch : List ℕ) : Type 0 where
+  pub vars : s .vars ≤ 1048576
+  pub gates : s .gates ≤ 1048576
+  pub few : s .sources + s .gates < s .vars
+  pub long : length scratch ≡ 3 * s .vars + 3 * s .gates

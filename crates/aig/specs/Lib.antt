@@ -1,0 +1,15 @@
+pub mod Lending
+pub mod Checks
+pub mod Table
+pub mod Define
+pub mod Layout
+pub mod Stack
+pub mod Chains
+pub mod Already
+pub mod Store
+pub mod Settle
+pub mod Going
+pub mod Turns
+pub mod Walks
+pub mod Walked
+pub mod Whole

@@ -1,0 +1,36 @@
+-- The gates made, as the words of the lent gate list and with their chains in the scratch words. Assumes nothing.
+use Prim.Native.Nat.{ℕ, _+_, _*_, _-_, _≤_}
+use mathlib.Core.Path.{_≡_}
+use mathlib.Core.Bool.{true}
+use mathlib.Core.List.{List, _++_}
+use lib.ListN.{length, set}
+use Rattle.lit.specs.Code.{literal}
+use Rattle.lit.specs.declared.Lit.{Lit}
+use Rattle.circuit.specs.Walk as walk
+use Rattle.circuit.specs.Outcome.{pairWords, zeros}
+use Rattle.aig.specs.declared.shape.Shape.{Shape}
+use Rattle.aig.specs.declared.fold.Pair.{Pair}
+use Rattle.aig.specs.Layout.{Room, headsOf, nextsOf}
+use Rattle.aig.specs.Chains.{Chains}
+
+-- the place of gate k's words
+abbrev pub smallerAt : ℕ → ℕ
+smallerAt k = 2 * k + 1
+
+abbrev pub largerAt : ℕ → ℕ
+largerAt k = 2 * k
+
+-- the words with gate k put in
+abbrev pub withGate : List ℕ → ℕ → Pair → List ℕ
+withGate out k p = set (set out (largerAt k) (p .larger .0)) (smallerAt k) (p .smaller .0)
+
+-- the code of gate k
+abbrev pub codeAt : Shape → ℕ → Lit
+codeAt s k = literal (walk.firstCode (s .sources) + 2 * k)
+
+-- the gates made stand in the lent gate list, zeros after them, and with hashing they are chained
+pub record MadeIn (s : Shape) (made : List walk.Pair) (out scratch : List ℕ) : Type 0 where
+  pub room : Room s scratch
+  pub fits : length made ≤ s .gates
+  pub words : out ≡ pairWords made ++ zeros (2 * (s .gates - length made))
+  pub chains : s .hash ≡ true → Chains made (headsOf s scratch) (nextsOf s scratch)

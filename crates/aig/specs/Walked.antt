@@ -1,0 +1,30 @@
+-- What the walks are given and what they leave. Assumes nothing.
+use Prim.Native.Nat.{ℕ, _+_, _-_, _*_}
+use mathlib.Core.Path.{_≡_}
+use mathlib.Core.List.{List, _++_}
+use lib.ListN.{length, take, drop}
+use Rattle.circuit.specs.Graph.{DefinedOnce}
+use Rattle.circuit.specs.Walk.{Out, reached, stopped}
+use Rattle.circuit.specs.Circuit.{Circuit, graph, start}
+use Rattle.circuit.specs.Outcome.{Lent, circuitOf, pairWords, zeros, mapWords, scratchWords}
+use Rattle.circuit.specs.Claims.{Within, Agrees, InBounds}
+use Rattle.aig.specs.Table.{Tabled}
+use Rattle.aig.specs.declared.walk.Walked.{Walked}
+use Rattle.aig.specs.declared.walk.Walked.the-variants.{Reached, Stopped}
+
+-- the circuit has passed checks 1 to 6, and the lists are as the walks of its literals find them
+pub record WalkReady (l : Lent) (map out scratch : List ℕ) : Type 0 where
+  pub within : Within (circuitOf l)
+  pub agrees : Agrees l
+  pub bounds : InBounds (circuitOf l)
+  pub once : DefinedOnce (graph (circuitOf l))
+  pub mapped : map ≡ start (circuitOf l .top) (graph (circuitOf l) .sources) .images
+  pub outs : out ≡ zeros (2 * length (circuitOf l .gates))
+  pub table : Tabled (circuitOf l .gates) (take (mapWords (circuitOf l)) scratch)
+  pub clean : drop (mapWords (circuitOf l)) scratch ≡ zeros (2 * mapWords (circuitOf l) + 3 * length (circuitOf l .gates))
+  pub room : length scratch ≡ scratchWords (circuitOf l)
+
+abbrev pub WalkEnds : Circuit → Out → Walked → List ℕ → List ℕ → Type 0
+WalkEnds C (reached w) r map out =
+    (r ≡ Reached (length (w .made))) × (map ≡ w .images) × (out ≡ pairWords (w .made) ++ zeros (2 * (length (C .gates) - length (w .made))))
+WalkEnds C (stopped why) r map out = r ≡ Stopped why

@@ -1,0 +1,299 @@
+// The walk of one literal. Each step takes the numbers of the walk and hands them on to the next; what the machine of the definitions comes to, the
+// walk comes to.
+ghost use mathlib.Core.Path.{_≡_};
+ghost use Prim.Native.Nat.{ℕ, _+_, _-_, _*_, _^_, _<_};
+ghost use mathlib.Core.List.{List};
+ghost use lib.ListN.{length};
+ghost use Rattle.circuit.specs.Walk as circuit-walk;
+ghost use Rattle.aig.specs.Layout.{Room};
+ghost use Rattle.aig.specs.Already.{alreadyOf, madeIf, alreadyIn};
+ghost use Rattle.aig.specs.Store.{MadeIn};
+ghost use Rattle.aig.specs.Settle.{numbers, left, appended, settled, CanSettle};
+ghost use Rattle.aig.specs.Turns.{Walking, Turns, Runs};
+use crate::chains;
+use crate::defs;
+use crate::defs::GateNumber;
+use crate::flat;
+use crate::fold::Already;
+use crate::fold::Pair;
+use crate::map;
+use crate::shape::Shape;
+use crate::stack;
+use crate::stack::Frame;
+use crate::store;
+use circuit::Image;
+use circuit::Refusal;
+use lit::Lit;
+
+// The numbers that a step hands on: entries on the stack, gates made.
+pub struct Walk {
+    pub depth: usize,
+    pub made: usize,
+}
+
+// Where the walk stands.
+pub enum State {
+    // a literal is about to be walked
+    Transfer(Walk, Lit),
+    // the first input of a literal has its image, or the second
+    First(Walk, Lit),
+    Second(Walk, Lit),
+    // a literal has its image
+    Return(Walk),
+    Reached(Walk),
+    Stopped(Refusal),
+}
+
+// How walks end: with so many gates made, or refused.
+pub enum Walked {
+    Reached(usize),
+    Stopped(Refusal),
+}
+
+impl Walk {
+    // An empty stack.
+    pub fn start(made: usize) -> Walk
+        ensures { λ r. ⌜ r ≡ numbers 0 made ⌝ }
+    {
+        Walk {
+            depth: 0,
+            made: made,
+        }
+    }
+
+    fn deeper(self) -> Walk
+        requires { ⌜ self .depth < 2 ^ 32 ⌝ }
+        ensures { λ r. ⌜ r ≡ numbers (self .depth + 1) (self .made) ⌝ }
+    {
+        Walk {
+            depth: self.depth + 1,
+            made: self.made,
+        }
+    }
+
+    fn shallower(self) -> Walk
+        requires { ⌜ 0 < self .depth ⌝ }
+        ensures { λ r. ⌜ r ≡ numbers (self .depth - 1) (self .made) ⌝ }
+    {
+        Walk {
+            depth: self.depth - 1,
+            made: self.made,
+        }
+    }
+
+    fn with_gate(self) -> Walk
+        requires { ⌜ self .made < 2 ^ 32 ⌝ }
+        ensures { λ r. ⌜ r ≡ numbers (self .depth) (self .made + 1) ⌝ }
+    {
+        Walk {
+            depth: self.depth,
+            made: self.made + 1,
+        }
+    }
+
+    // A literal with an image returns at once; one that is the middle of the path, or has no gate, is refused; else its gate is entered.
+    fn transfer(
+        self,
+        shape: Shape,
+        lit: Lit,
+        gates: &[u32],
+        map: &[u32],
+        scratch: &mut [u32],
+    ) -> State
+        requires { ⌜ ((out : List ℕ) × Walking shape (now gates) (State.Transfer self lit) (now map) out (now scratch)) ⌝ }
+        ensures { λ r. ⌜ ((out : List ℕ) → Turns shape (now (gates .entry)) (State.Transfer self lit) (now (map .entry)) out (now (scratch .entry)) r (now (map .entry)) out (now (scratch .exit))) ⌝ }
+    {
+        let image = map::image(map, lit);
+        if let Image::Code(_t) = image {
+            return State::Return(self);
+        }
+        if stack::middle(scratch, shape, self.depth, lit) {
+            return State::Stopped(Refusal::Cycle(lit));
+        }
+        let number = defs::gate_of(scratch, lit);
+        let GateNumber::Number(k) = number else {
+            return State::Stopped(Refusal::Undefined(lit));
+        };
+        if self.depth == 2 * shape.gates {
+            return State::Stopped(Refusal::Deep(lit));
+        }
+        stack::push(scratch, shape, self.depth, Frame::First(lit));
+        State::Transfer(self.deeper(), flat::first_of(gates, k))
+    }
+
+    // The first input has its image: the second is next.
+    fn first_input(self, shape: Shape, lit: Lit, gates: &[u32], scratch: &mut [u32]) -> State
+        requires { ⌜ ((map : List ℕ) × (out : List ℕ) × Walking shape (now gates) (State.First self lit) map out (now scratch)) ⌝ }
+        ensures { λ r. ⌜ ((map out : List ℕ) → Turns shape (now (gates .entry)) (State.First self lit) map out (now (scratch .entry)) r map out (now (scratch .exit))) ⌝ }
+    {
+        let number = defs::gate_of(scratch, lit);
+        let GateNumber::Number(k) = number else {
+            return State::Stopped(Refusal::Undefined(lit));
+        };
+        stack::push(scratch, shape, self.depth, Frame::Second(lit));
+        State::Transfer(self.deeper(), flat::second_of(gates, k))
+    }
+
+    // Both inputs have their images: the gate is settled.
+    fn second_input(
+        self,
+        shape: Shape,
+        lit: Lit,
+        gates: &[u32],
+        map: &mut [u32],
+        out: &mut [u32],
+        scratch: &mut [u32],
+    ) -> State
+        requires { ⌜ Walking shape (now gates) (State.Second self lit) (now map) (now out) (now scratch) ⌝ }
+        ensures { λ r. ⌜ Turns shape (now (gates .entry)) (State.Second self lit) (now (map .entry)) (now (out .entry)) (now (scratch .entry)) r (now (map .exit)) (now (out .exit)) (now (scratch .exit)) ⌝ }
+    {
+        let number = defs::gate_of(scratch, lit);
+        let GateNumber::Number(k) = number else {
+            return State::Stopped(Refusal::Undefined(lit));
+        };
+        let first = flat::first_of(gates, k);
+        let image = map::image(map, first);
+        let Image::Code(x) = image else {
+            return State::Stopped(Refusal::Undefined(first));
+        };
+        let second = flat::second_of(gates, k);
+        let image = map::image(map, second);
+        let Image::Code(y) = image else {
+            return State::Stopped(Refusal::Undefined(second));
+        };
+        self.settle(
+            shape,
+            flat::output_of(gates, k),
+            Pair::of(x, y),
+            map,
+            out,
+            scratch,
+        )
+    }
+
+    // The output gets the code that stands for the gate already, or that of a gate made.
+    fn settle(
+        self,
+        shape: Shape,
+        output: Lit,
+        pair: Pair,
+        map: &mut [u32],
+        out: &mut [u32],
+        scratch: &mut [u32],
+    ) -> State
+        requires { ⌜ CanSettle shape self pair (now out) (now scratch) ⌝ }
+        ensures { λ r. ⌜ ((made : List circuit-walk.Pair) → MadeIn shape made (now (out .entry)) (now (scratch .entry)) → left r (now (map .exit)) (now (out .exit)) (now (scratch .exit)) ≡ settled shape self output pair (now (map .entry)) (now (out .entry)) (now (scratch .entry)) (alreadyOf (alreadyIn shape made pair))) ⌝ }
+    {
+        let already = already(shape, pair, out, scratch);
+        match already {
+            Already::Code(t) => {
+                map::insert(map, output, t);
+                State::Return(self)
+            }
+            Already::New => self.append(shape, output, pair, map, out, scratch),
+        }
+    }
+
+    // The one place where a gate is made.
+    fn append(
+        self,
+        shape: Shape,
+        output: Lit,
+        pair: Pair,
+        map: &mut [u32],
+        out: &mut [u32],
+        scratch: &mut [u32],
+    ) -> State
+        requires { ⌜ Room shape (now scratch) × (length (now out) ≡ 2 * shape .gates) × (self .made < shape .gates) × (pair .larger .0 < 2 * shape .vars) ⌝ }
+        ensures { λ r. ⌜ left r (now (map .exit)) (now (out .exit)) (now (scratch .exit)) ≡ appended shape self output pair (now (map .entry)) (now (out .entry)) (now (scratch .entry)) ⌝ }
+    {
+        chains::link_if(shape, self.made, pair, scratch);
+        store::append(out, self.made, pair);
+        map::insert(map, output, chains::code_at(shape, self.made));
+        State::Return(self.with_gate())
+    }
+
+    // A literal has its image: the entry on top says whose input it was. (`return` is a keyword.)
+    fn back(self, shape: Shape, scratch: &[u32]) -> State
+        requires { ⌜ ((gates : List ℕ) × (map : List ℕ) × (out : List ℕ) × Walking shape gates (State.Return self) map out (now scratch)) ⌝ }
+        ensures { λ r. ⌜ ((gates map out : List ℕ) → Turns shape gates (State.Return self) map out (now (scratch .entry)) r map out (now (scratch .entry))) ⌝ }
+    {
+        if self.depth == 0 {
+            return State::Reached(self);
+        }
+        let walk = self.shallower();
+        let frame = stack::entry(scratch, shape, walk.depth);
+        match frame {
+            Frame::First(lit) => State::First(walk, lit),
+            Frame::Second(lit) => State::Second(walk, lit),
+        }
+    }
+}
+
+// The code that stands for a gate already, as the flags allow it: folding first, then a gate made.
+fn already(shape: Shape, pair: Pair, out: &[u32], scratch: &[u32]) -> Already
+    requires { ⌜ (pair .larger .0 < 2 * shape .vars) × ((made : List circuit-walk.Pair) × MadeIn shape made (now out) (now scratch)) ⌝ }
+    ensures { λ r. ⌜ ((made : List circuit-walk.Pair) → MadeIn shape made (now (out .entry)) (now (scratch .entry)) → r ≡ alreadyOf (alreadyIn shape made pair)) ⌝ }
+{
+    let folded = folded_if(shape.fold, pair);
+    match folded {
+        Already::Code(t) => Already::Code(t),
+        Already::New => found_if(shape, pair, out, scratch),
+    }
+}
+
+fn folded_if(on: bool, pair: Pair) -> Already
+    ensures { λ r. ⌜ r ≡ alreadyOf (circuit-walk.foldedIf on (pair .larger .0) (pair .smaller .0)) ⌝ }
+{
+    if on {
+        return pair.folded();
+    }
+    Already::New
+}
+
+fn found_if(shape: Shape, pair: Pair, out: &[u32], scratch: &[u32]) -> Already
+    requires { ⌜ (pair .larger .0 < 2 * shape .vars) × ((made : List circuit-walk.Pair) × MadeIn shape made (now out) (now scratch)) ⌝ }
+    ensures { λ r. ⌜ ((made : List circuit-walk.Pair) → MadeIn shape made (now (out .entry)) (now (scratch .entry)) → r ≡ alreadyOf (madeIf shape made pair)) ⌝ }
+{
+    if shape.hash {
+        return chains::find(shape, pair, out, scratch);
+    }
+    Already::New
+}
+
+// Walks from a state to the end.
+pub fn run(
+    start: State,
+    shape: Shape,
+    gates: &[u32],
+    map: &mut [u32],
+    out: &mut [u32],
+    scratch: &mut [u32],
+) -> Walked
+    requires { ⌜ Walking shape (now gates) start (now map) (now out) (now scratch) ⌝ }
+    ensures { λ r. ⌜ Runs shape (now (gates .entry)) start (now (map .entry)) (now (out .entry)) (now (scratch .entry)) r (now (map .exit)) (now (out .exit)) (now (scratch .exit)) ⌝ }
+{
+    let mut state = start;
+    loop {
+        match state {
+            State::Transfer(walk, lit) => {
+                state = walk.transfer(shape, lit, gates, map, scratch);
+            }
+            State::First(walk, lit) => {
+                state = walk.first_input(shape, lit, gates, scratch);
+            }
+            State::Second(walk, lit) => {
+                state = walk.second_input(shape, lit, gates, map, out, scratch);
+            }
+            State::Return(walk) => {
+                state = walk.back(shape, scratch);
+            }
+            State::Reached(walk) => {
+                return Walked::Reached(walk.made);
+            }
+            State::Stopped(why) => {
+                return Walked::Stopped(why);
+            }
+        }
+    }
+}

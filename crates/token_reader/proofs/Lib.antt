@@ -1,0 +1,5 @@
+pub mod Parts
+pub mod Reading
+pub mod Moving
+pub mod Moves
+pub mod Theorems
