@@ -1,0 +1,65 @@
+-- `checks::over_in` meets its contract: nothing before code i is over the bound, so the first of what is left is the first of all. Assumes nothing.
+use borrow.Author.Needs.{needs}
+use Rattle.aig_records.proofs.checks.over_in.Statement.{statement}
+use Rattle.aig_records.proofs.checks.over_in.Tie as tie
+use native.Mathlib.Omega.{arith}
+use denote.Ref.{now}
+use Prim.Native.Nat.{_≤_, _-_}
+use mathlib.Core.Path.{_≡_, sym, ap, _∙_}
+use lib.ListN.{length, drop}
+use Rattle.aig_records.specs.declared.checks.Found.the-variants.{Literal}
+use Rattle.aig_records.specs.Checks.{firstIn}
+use Rattle.aig_records.proofs.Overs.{told, over-here, over-on, over-end}
+
+abbrev Inv-loop : tie.InvT-loop
+Inv-loop top codes i₀ i = (i ≤ length codes) × (firstIn (top .0) codes ≡ firstIn (top .0) (drop i codes))
+
+abbrev μ-loop : tie.MeasureT-loop
+μ-loop top codes i₀ i = length codes - i
+
+loop-holds : tie.Need-loop-holds Inv-loop μ-loop
+loop-holds c = search needs
+
+mul-from-code : tie.Need-mul-from-code Inv-loop μ-loop
+mul-from-code c = search needs
+
+shared-slice-read-from-code : tie.Need-shared-slice-read-from-code Inv-loop μ-loop
+shared-slice-read-from-code c = search needs
+
+from-code-requires : tie.Need-from-code-requires Inv-loop μ-loop
+from-code-requires c κs = search needs
+
+is-over-requires : tie.Need-is-over-requires Inv-loop μ-loop
+is-over-requires c κs = search needs
+
+returns : tie.Need-returns Inv-loop μ-loop
+returns c = ap Literal (c .before .before .from-code .ensures) ∙ over-here (c .before .before .before .before .before .before .before .args .top .0) (now (c .before .before .before .before .before .before .before .args .codes)) (c .before .before .before .before .before .loop .i) (c .before .before .before .before .loop-test .taken) (told _ _ _ _ _ (c .before .before .from-code .ensures) (c .before .is-over .ensures) (c .if1 .taken)) ∙ sym (c .before .before .before .before .before .loop .inv .1)
+
+add-i : tie.Need-add-i Inv-loop μ-loop
+add-i c = search needs
+
+loop-less : tie.Need-loop-less Inv-loop μ-loop
+loop-less c = search needs
+
+loop-again : tie.Need-loop-again Inv-loop μ-loop
+loop-again c = (omega arith, c .before .before .before .before .before .loop .inv .1 ∙ over-on (c .before .before .before .before .before .before .before .args .top .0) (now (c .before .before .before .before .before .before .before .args .codes)) (c .before .before .before .before .before .loop .i) (c .before .before .before .before .loop-test .taken) (told _ _ _ _ _ (c .before .before .from-code .ensures) (c .before .is-over .ensures) (c .if1 .left)))
+
+returns-2 : tie.Need-returns-2 Inv-loop μ-loop
+returns-2 c = over-end (c .before .before .before .args .top .0) (now (c .before .before .before .args .codes)) (c .before .loop .i) (c .loop-test .left) ∙ sym (c .before .loop .inv .1)
+
+pub over-in-spec : {M : Type 1} → statement M
+over-in-spec =
+    tie.close
+    (tie.spec
+    Inv-loop
+    μ-loop
+    loop-holds
+    mul-from-code
+    shared-slice-read-from-code
+    from-code-requires
+    is-over-requires
+    returns
+    add-i
+    loop-less
+    loop-again
+    returns-2)

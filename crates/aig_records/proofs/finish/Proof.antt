@@ -1,0 +1,86 @@
+-- `finish` meets its contract: after a refusal nothing is done; else the flat entry answers for the front of the list, and that front is cleared. Assumes nothing.
+use borrow.Author.Needs.{needs}
+use Rattle.aig_records.proofs.finish.Statement.{statement}
+use Rattle.aig_records.proofs.finish.Tie as tie
+use denote.Ref.{now}
+use Prim.Native.Nat.{_*_}
+use mathlib.Core.Path.{sym, ap}
+use lib.ListN.{take}
+use Rattle.circuit.specs.Outcome.{lentOf}
+use Rattle.aig_records.specs.declared.checks.Check.{Check}
+use Rattle.aig_records.specs.Outcome.{finished}
+use Rattle.aig_records.proofs.Flat.{front-length}
+use Rattle.aig_records.proofs.Joined.{finish-passed}
+
+enum-known-check : tie.Need-enum-known-check
+enum-known-check c = search needs
+
+enum-told : tie.Need-enum-told
+enum-told c = search needs
+
+mul-words : tie.Need-mul-words
+mul-words c = search needs
+
+slice-reshare-prefix-renumber : tie.Need-slice-reshare-prefix-renumber
+slice-reshare-prefix-renumber c = search needs
+
+slice-aggregate-renumber : tie.Need-slice-aggregate-renumber
+slice-aggregate-renumber c = front-length _ (now (c .before .before .before .before .before .before .before .before .before .before .before .before .before .before .args .flat)) (c .before .before .before .before .before .before .before .before .before .before .before .before .before .before .pre)
+
+renumber-requires : tie.Need-renumber-requires
+renumber-requires c κs = search needs
+
+slice-relend-prefix-clear : tie.Need-slice-relend-prefix-clear
+slice-relend-prefix-clear c = search needs
+
+slice-aggregate-clear : tie.Need-slice-aggregate-clear
+slice-aggregate-clear c = front-length _ (now (c .before .before .before .before .before .before .before .before .before .before .before .before .before .before .before .before .before .before .before .before .before .before .before .before .before .before .before .before .before .before .before .args .flat)) (c .before .before .before .before .before .before .before .before .before .before .before .before .before .before .before .before .before .before .before .before .before .before .before .before .before .before .before .before .before .before .before .pre)
+
+clear-requires : tie.Need-clear-requires
+clear-requires c κs = search needs
+
+returns : tie.Need-returns
+returns c = let a = c .before .before .before .before .before .before .before .before .before .before .before .before .before .args in sym (ap (λ (k : Check). finished k (lentOf (a .circuit) (now (a .inputs)) (now (a .states)) (now (a .nexts)) (take (a .checked .laid * 3) (now (a .flat))) (now (a .roots)) (now (a .map)) (now (a .next-images)) (now (a .root-images)) (now (a .gates-out)) (now (a .scratch))) (now (a .flat))) (c .before .check .given .1))
+
+same-length : tie.Need-same-length
+same-length c = search needs
+
+same-length-2 : tie.Need-same-length-2
+same-length-2 c = search needs
+
+same-length-3 : tie.Need-same-length-3
+same-length-3 c = search needs
+
+same-length-4 : tie.Need-same-length-4
+same-length-4 c = search needs
+
+same-length-5 : tie.Need-same-length-5
+same-length-5 c = search needs
+
+same-length-6 : tie.Need-same-length-6
+same-length-6 c = search needs
+
+returns-2 : tie.Need-returns-2
+returns-2 c = let a = c .before .before .before .before .before .before .before .before .before .before .before .before .before .before .before .before .before .before .before .before .before .before .before .before .before .before .before .before .before .before .before .before .before .before .args in finish-passed (lentOf (a .circuit) (now (a .inputs)) (now (a .states)) (now (a .nexts)) (take (a .checked .laid * 3) (now (a .flat))) (now (a .roots)) (now (a .map)) (now (a .next-images)) (now (a .root-images)) (now (a .gates-out)) (now (a .scratch))) (now (a .flat)) (a .checked .laid * 3) (sym (front-length _ (now (a .flat)) (c .before .before .before .before .before .before .before .before .before .before .before .before .before .before .before .before .before .before .before .before .before .before .before .before .before .before .before .before .before .before .before .before .before .before .pre))) (a .checked .check) (cc) _ (c .before .before .before .before .before .before .before .before .before .before .before .before .before .before .renumber .ensures) _ (c .before .before .clear .ensures)
+
+pub finish-spec : {M : Type 1} → statement M
+finish-spec =
+    tie.close
+    (tie.spec
+    enum-known-check
+    enum-told
+    mul-words
+    slice-reshare-prefix-renumber
+    slice-aggregate-renumber
+    renumber-requires
+    slice-relend-prefix-clear
+    slice-aggregate-clear
+    clear-requires
+    returns
+    same-length
+    same-length-2
+    same-length-3
+    same-length-4
+    same-length-5
+    same-length-6
+    returns-2)

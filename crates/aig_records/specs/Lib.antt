@@ -1,0 +1,4 @@
+pub mod Records
+pub mod Checks
+pub mod Outcome
+pub mod Determined

@@ -1,0 +1,120 @@
+// Renumbering where the gates come as records, each an output and two inputs: a thin entry over the one for flat gates.
+mod checks;
+mod records;
+mod words;
+
+ghost use mathlib.Core.Path.{_≡_};
+ghost use Prim.Native.Nat.{_*_, _≤_};
+ghost use lib.ListN.{length, take};
+ghost use Rattle.circuit.specs.Outcome.{lentOf, outcomeOf};
+ghost use Rattle.aig_records.specs.Records.{flatOf};
+ghost use Rattle.aig_records.specs.Outcome.{withFlat, outcomeOfRecords, finished};
+use checks::Check;
+use checks::Checked;
+use checks::Rooms;
+use circuit::Answer;
+use circuit::CircuitRecord;
+use lit::Lit;
+
+// A gate by its output and its two inputs.
+pub struct GateRecord {
+    pub output: Lit,
+    pub first: Lit,
+    pub second: Lit,
+}
+
+// Renumbers the gates that were laid flat and clears their words, where the checks have passed.
+fn finish(
+    checked: Checked,
+    circuit: CircuitRecord,
+    inputs: &[u32],
+    states: &[u32],
+    nexts: &[u32],
+    roots: &[u32],
+    map: &mut [u32],
+    next_images: &mut [u32],
+    root_images: &mut [u32],
+    gates_out: &mut [u32],
+    scratch: &mut [u32],
+    flat: &mut [u32],
+) -> Answer
+    requires { ⌜ checked .laid * 3 ≤ length (now flat) ⌝ }
+    ensures { λ r. ⌜ withFlat (outcomeOf r (now (map .exit)) (now («next_images» .exit)) (now («root_images» .exit)) (now («gates_out» .exit)) (now (scratch .exit))) (now (flat .exit)) ≡ finished (checked .check) (lentOf circuit (now (inputs .entry)) (now (states .entry)) (now (nexts .entry)) (take (checked .laid * 3) (now (flat .entry))) (now (roots .entry)) (now (map .entry)) (now («next_images» .entry)) (now («root_images» .entry)) (now («gates_out» .entry)) (now (scratch .entry))) (now (flat .entry)) ⌝ }
+{
+    let check = checked.check;
+    match check {
+        Check::Failed(why) => Answer::Refused(why),
+        Check::Passed => {
+            let words = checked.laid * 3;
+            let answer = aig::renumber(
+                circuit,
+                inputs,
+                states,
+                nexts,
+                &flat[..words],
+                roots,
+                map,
+                next_images,
+                root_images,
+                gates_out,
+                scratch,
+            );
+            words::clear(&mut flat[..words]);
+            answer
+        }
+    }
+}
+
+// Renumbers a circuit as `aig::renumber` does, with gates that are records. Their codes are laid flat in the first words of `flat`, three a record,
+// once checks 1 to 4 have passed; afterwards those words are 0. Refusals 1 to 4 write nothing; 3 is given also where `flat` is too short.
+pub fn renumber_records(
+    circuit: CircuitRecord,
+    inputs: &[u32],
+    states: &[u32],
+    nexts: &[u32],
+    gates: &[GateRecord],
+    roots: &[u32],
+    map: &mut [u32],
+    next_images: &mut [u32],
+    root_images: &mut [u32],
+    gates_out: &mut [u32],
+    scratch: &mut [u32],
+    flat: &mut [u32],
+) -> Answer
+    ensures { λ r. ⌜ withFlat (outcomeOf r (now (map .exit)) (now («next_images» .exit)) (now («root_images» .exit)) (now («gates_out» .exit)) (now (scratch .exit))) (now (flat .exit)) ≡ outcomeOfRecords (lentOf circuit (now (inputs .entry)) (now (states .entry)) (now (nexts .entry)) (flatOf (now (gates .entry))) (now (roots .entry)) (now (map .entry)) (now («next_images» .entry)) (now («root_images» .entry)) (now («gates_out» .entry)) (now (scratch .entry))) (now (flat .entry)) ⌝ }
+{
+    let found = records::first_over(gates, circuit.top);
+    let rooms = Rooms {
+        map: map.len(),
+        next_images: next_images.len(),
+        root_images: root_images.len(),
+        gates_out: gates_out.len(),
+        scratch: scratch.len(),
+        flat: flat.len(),
+    };
+    let checked = checks::judge(
+        circuit,
+        inputs,
+        states,
+        nexts,
+        roots,
+        gates.len(),
+        found,
+        rooms,
+    );
+    records::flatten(gates, checked.laid, flat);
+    finish(
+        checked,
+        circuit,
+        inputs,
+        states,
+        nexts,
+        roots,
+        map,
+        next_images,
+        root_images,
+        gates_out,
+        scratch,
+        flat,
+    )
+}

@@ -1,0 +1,121 @@
+-- What renumbering answers and leaves in its lists, as the text of the report. Assumes nothing.
+use Prim.Native.Nat.{ℕ, _+_, _*_, _/_, _%_, _≤_, _<_}
+use mathlib.Core.Path.{_≡_, sym, ap, _∙_}
+use mathlib.Core.List.{List}
+use native.Mathlib.Omega.{arith}
+use borrow.Author.Tests.{le-leb, lt-leb, le-ltb, eq-eqb}
+use lib.ListN.{length, take}
+use Rattle.circuit.specs.declared.Refusal.{Refusal}
+use Rattle.circuit.specs.declared.Summary.{Summary}
+use Rattle.circuit.specs.declared.Answer.{Answer}
+use Rattle.circuit.specs.declared.Answer.the-variants.{Renumbered, Refused}
+use Rattle.circuit.specs.declared.CircuitRecord.{CircuitRecord}
+use Rattle.circuit.specs.Refusals.{refusalNumber, refusalLiteral}
+use Rattle.circuit.specs.Walk.{firstCode}
+use Rattle.circuit.specs.Circuit.{Circuit, renumber}
+use Rattle.circuit.specs.Ordered.{Ordered, orderedOf, gatesFrom}
+use Rattle.circuit.specs.Outcome.{Lent, Outcome, lentOf, outcomeOf, gatesOf, limit, total, tooBig, misshapen, tooShort, pairsOf, outcome, held}
+use Rattle.circuit.specs.Claims.{Fits, Succeeds}
+use Rattle.circuit.proofs.Outcome.{conclusion-of, refusal-from}
+use Rattle.circuit.proofs.Success.{success, sizes}
+use Rattle.circuit.proofs.Words.{gates-length}
+use Rattle.sheet.specs.Lines.{refusedLine, orderedLine, gateLine, each}
+use Rattle.sheet.specs.Sheet.{topOf, gateCount, rootCounts, rootCount, recordOn}
+use Rattle.sheet.specs.Report.{beside, refusedText, orderedText, textOf, outText}
+use Rattle.sheet.specs.Promise.{circuitIn, Shaped, Roomy}
+use Rattle.sheet.proofs.Headers.{bounds}
+
+pub refused-literal : (why : Refusal) (n k m : ℕ) → n ≡ m → k ≡ refusalLiteral why .0 → m ≤ 8 → m ≡ refusalNumber why → refusedLine n k ≡ refusedText why
+unfolding refusedText beside
+refused-literal why n k m p q h e = rw (← e, le-leb m 8 h, p, q)
+
+pub refused-plain : (why : Refusal) (n m : ℕ) → n ≡ m → 8 < m → m ≡ refusalNumber why → refusedLine n 0 ≡ refusedText why
+unfolding refusedText beside
+refused-plain why n m p h e = rw (← e, lt-leb m 8 h, p)
+
+-- the first line and the gates' lines, with the numbers as the code has them
+pub ordered-line-same : (a b l c : ℕ) {a′ b′ c′ : ℕ} → a ≡ a′ → b ≡ b′ → c ≡ c′ → orderedLine a b l c ≡ orderedLine a′ b′ l c′
+ordered-line-same a b l c p q r = rw (p, q, r)
+
+pub gate-lines-same : (ws : List ℕ) (w l : ℕ) {i : ℕ} → w ≡ i
+    → each gateLine (gatesFrom (2 * (w + l + 1)) (pairsOf ws)) ≡ each gateLine (gatesFrom (firstCode (i + l)) (pairsOf ws))
+unfolding firstCode
+gate-lines-same ws w l p = rw p
+
+-- a circuit on a sheet, with room for the largest one, passes checks 1 to 3
+module _ (h is ss ns gs rs m n r g w : List ℕ) (shaped : Shaped h is ss ns gs rs) (room : Roomy m n r g w) where
+  abbrev pub lent : Lent
+  lent = lentOf (recordOn h) is ss ns gs rs m n r g w
+
+  abbrev pub C : Circuit
+  C = circuitIn h is ss ns gs rs
+
+  gate-number : length (gatesOf gs) ≡ gateCount h
+  gate-number = let k : 3 * gateCount h / 3 ≡ gateCount h = omega arith in gates-length gs ∙ ap (λ (x : ℕ). x / 3) (shaped .gates) ∙ k
+
+  pub fits : Fits lent
+  unfolding tooBig misshapen tooShort rootCount
+  fits =
+      let b = bounds (shaped .taken) in
+      record {
+        one =
+            rw (
+              le-ltb limit (topOf h) (omega arith),
+              le-ltb limit (length is) (omega (arith, shaped .inputs)),
+              le-ltb limit (length ss) (omega (arith, shaped .states)),
+              le-ltb limit (length (gatesOf gs)) (omega (arith, gate-number)),
+              le-ltb limit (length rs) (omega (arith, shaped .roots)),
+            );
+        two =
+            rw (
+              eq-eqb (total (rootCounts h)) (length rs) (sym (shaped .roots)),
+              eq-eqb (length ss) (length ns) (shaped .states ∙ sym (shaped .nexts)),
+              eq-eqb (length gs % 3) 0 (omega (arith, shaped .gates)),
+            );
+        three =
+            rw (
+              le-ltb (length m) (topOf h + 1) (omega (arith, room .map)),
+              le-ltb (length n) (length ss) (omega (arith, room .nextImages, shaped .states)),
+              le-ltb (length r) (length rs) (omega (arith, room .rootImages, shaped .roots)),
+              le-ltb (length g) (2 * length (gatesOf gs)) (omega (arith, room .gatesOut, gate-number)),
+              le-ltb (length w) (3 * topOf h + 3 + 3 * length (gatesOf gs)) (omega (arith, room .scratch, gate-number)),
+            );
+      }
+
+  module _ (m′ n′ r′ g′ w′ : List ℕ) where
+    -- a success: the lists hold the ordered circuit
+    module _ (s : Summary) (e : outcomeOf (Renumbered s) m′ n′ r′ g′ w′ ≡ outcome lent) where
+      abbrev succeeds : Succeeds lent s
+      succeeds = sym (ap (λ (o : Outcome). o .answer) e)
+
+      pub made-few : s .made ≤ 1023
+      made-few = omega (arith, sizes lent s succeeds .1, gate-number, bounds (shaped .taken))
+
+      pub ordered-text : orderedText s (length is) (take (length ss) n′) (pairsOf (take (2 * s .made) g′)) (take (length rs) r′) ≡ outText C (renumber C)
+      unfolding held textOf
+      ordered-text =
+          let k = success lent s succeeds in
+          let holds : held lent s (outcomeOf (Renumbered s) m′ n′ r′ g′ w′) ≡ orderedOf C (k .work) = ap (held lent s) e ∙ k .holds in
+          let O : Ordered = orderedOf C (k .work) in
+          ap (λ (x : Ordered). orderedText s (x .inputs) (x .nexts) (x .gates) (x .roots)) holds
+          ∙ ap (λ (x : Summary). orderedText x (O .inputs) (O .nexts) (O .gates) (O .roots)) (k .sums)
+          ∙ ap (outText C) (sym (k .ends) ∙ conclusion-of lent fits)
+
+    pub refused-text : (why : Refusal) → outcomeOf (Refused why) m′ n′ r′ g′ w′ ≡ outcome lent → refusedText why ≡ outText C (renumber C)
+    refused-text why e = ap (outText C) (sym (refusal-from lent why (sym (ap (λ (o : Outcome). o .answer) e))) ∙ conclusion-of lent fits)
+
+    -- the same of an answer and a record as the code has them
+    module _ (a : Answer) (c : CircuitRecord) (k : c ≡ recordOn h) (e : outcomeOf a m′ n′ r′ g′ w′ ≡ outcome (lentOf c is ss ns gs rs m n r g w)) where
+      same-outcome : (b : Answer) → a ≡ b → outcomeOf b m′ n′ r′ g′ w′ ≡ outcome lent
+      same-outcome b f =
+          ap (λ (x : Answer). outcomeOf x m′ n′ r′ g′ w′) (sym f) ∙ e ∙ ap (λ (x : CircuitRecord). outcome (lentOf x is ss ns gs rs m n r g w)) k
+
+      pub given-made : (s : Summary) → a ≡ Renumbered s → s .made ≤ 1023
+      given-made s f = made-few s (same-outcome (Renumbered s) f)
+
+      pub given-ordered : (s : Summary) → a ≡ Renumbered s
+          → orderedText s (length is) (take (length ss) n′) (pairsOf (take (2 * s .made) g′)) (take (length rs) r′) ≡ outText C (renumber C)
+      given-ordered s f = ordered-text s (same-outcome (Renumbered s) f)
+
+      pub given-refused : (why : Refusal) → a ≡ Refused why → refusedText why ≡ outText C (renumber C)
+      given-refused why f = refused-text why (same-outcome (Refused why) f)

@@ -1,0 +1,11 @@
+pub mod Texts
+pub mod Cells
+pub mod Runs
+pub mod Headers
+pub mod Sheets
+pub mod Circuits
+pub mod Answers
+pub mod Room
+pub mod Reports
+pub mod Newlines
+pub mod Theorems

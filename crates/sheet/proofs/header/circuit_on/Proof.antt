@@ -1,0 +1,74 @@
+-- `header::circuit_on` meets its contract: no number is over its limit, so each is a word; the five counts are a part of the header. Assumes nothing.
+use native.Mathlib.Omega.{arith}
+use mathlib.Core.Path.{ap, _∙_}
+use Rattle.sheet.proofs.Headers.{taken-at, record-same}
+use Rattle.lit.specs.Code.{variable}
+use denote.Ref.{now}
+use borrow.Author.Needs.{needs}
+use Rattle.sheet.proofs.header.circuit_on.Statement.{statement}
+use Rattle.sheet.proofs.header.circuit_on.Tie as tie
+
+shared-slice-read-flags : tie.Need-shared-slice-read-flags
+shared-slice-read-flags c = search needs
+
+shared-slice-read-word : tie.Need-shared-slice-read-word
+shared-slice-read-word c = search needs
+
+word-requires : tie.Need-word-requires
+word-requires c κs = omega (arith, taken-at (c .before .before .before .pre) 0 (omega arith))
+
+from-index-requires : tie.Need-from-index-requires
+from-index-requires c κs = search needs
+
+shared-slice-read-word-2 : tie.Need-shared-slice-read-word-2
+shared-slice-read-word-2 c = search needs
+
+word-requires-2 : tie.Need-word-requires-2
+word-requires-2 c κs = omega (arith, taken-at (c .before .before .before .before .before .before .pre) 4 (omega arith))
+
+shared-slice-read-word-3 : tie.Need-shared-slice-read-word-3
+shared-slice-read-word-3 c = search needs
+
+word-requires-3 : tie.Need-word-requires-3
+word-requires-3 c κs = omega (arith, taken-at (c .before .before .before .before .before .before .before .before .pre) 5 (omega arith))
+
+shared-slice-read-word-4 : tie.Need-shared-slice-read-word-4
+shared-slice-read-word-4 c = search needs
+
+word-requires-4 : tie.Need-word-requires-4
+word-requires-4 c κs = omega (arith, taken-at (c .before .before .before .before .before .before .before .before .before .before .pre) 6 (omega arith))
+
+shared-slice-read-word-5 : tie.Need-shared-slice-read-word-5
+shared-slice-read-word-5 c = search needs
+
+word-requires-5 : tie.Need-word-requires-5
+word-requires-5 c κs = omega (arith, taken-at (c .before .before .before .before .before .before .before .before .before .before .before .before .pre) 7 (omega arith))
+
+shared-slice-read-word-6 : tie.Need-shared-slice-read-word-6
+shared-slice-read-word-6 c = search needs
+
+word-requires-6 : tie.Need-word-requires-6
+word-requires-6 c κs = omega (arith, taken-at (c .before .before .before .before .before .before .before .before .before .before .before .before .before .before .pre) 8 (omega arith))
+
+returns : tie.Need-returns
+returns c = record-same (now (c .before .before .before .before .before .before .before .before .before .before .before .before .before .before .before .args .header)) _ _ _ _ _ _ (c .before .before .before .before .before .before .before .before .before .before .before .before .before .before .before .pre .ten) (c .before .before .before .before .before .before .before .before .before .before .from-index .ensures ∙ ap variable (c .before .before .before .before .before .before .before .before .before .before .before .word .ensures)) (c .before .before .before .before .before .before .before .before .word2 .ensures) (c .before .before .before .before .before .before .word3 .ensures) (c .before .before .before .before .word4 .ensures) (c .before .before .word5 .ensures) (c .word6 .ensures)
+
+pub circuit-on-spec : {M : Type 1} → statement M
+circuit-on-spec =
+    tie.close
+    (tie.spec
+    shared-slice-read-flags
+    shared-slice-read-word
+    word-requires
+    from-index-requires
+    shared-slice-read-word-2
+    word-requires-2
+    shared-slice-read-word-3
+    word-requires-3
+    shared-slice-read-word-4
+    word-requires-4
+    shared-slice-read-word-5
+    word-requires-5
+    shared-slice-read-word-6
+    word-requires-6
+    returns)

@@ -1,0 +1,4 @@
+pub mod Lines
+pub mod Sheet
+pub mod Report
+pub mod Promise
