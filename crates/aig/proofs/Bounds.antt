@@ -10,7 +10,7 @@ use Rattle.circuit.specs.Circuit.{Circuit, gateOutputs, gateCodes, latchCodes, 
 use Rattle.circuit.specs.Outcome.{Lent, circuitOf}
 use Rattle.circuit.specs.Claims.{Agrees, InBounds}
 use Rattle.circuit.proofs.Lists.{In-left, In-right}
-use Rattle.aig.proofs.Offenders.{flat-codes}
+use Rattle.checks.proofs.Offenders.{flat-codes}
 
 in-outputs : (c : ℕ) (gs : List Gate) → In c (map (λ g. g .output) gs) → In c (gateCodes gs)
 in-outputs c [] h = absurd h

@@ -19,7 +19,7 @@ use Rattle.aig.specs.declared.walk.Walked.{Walked}
 use Rattle.aig.specs.declared.walk.Walked.the-variants.{Reached, Stopped}
 use Rattle.aig.specs.Whole.{concluded, Exact, Tables}
 use Rattle.aig.specs.Walked.{WalkReady, WalkEnds}
-use Rattle.aig.proofs.Entries.{images-length}
+use Rattle.lent.proofs.Entries.{images-length}
 use Rattle.aig.proofs.Passing.{outcome-eq, alone, bareOf, made-few}
 use Rattle.aig.proofs.Tabling.{after-four, inB, lim, agr, once-of}
 

@@ -22,11 +22,11 @@ use Rattle.circuit.specs.Outcome.{zeros}
 use Rattle.circuit.proofs.Tests.{Same, same, other, sameTest, AtMost, atMost, above, leTest, last-or}
 use Rattle.circuit.proofs.Lists.{In-getD}
 use Rattle.circuit.proofs.Graph.{GateFound, aGate, gateFound, gateFor-of}
-use Rattle.aig.specs.declared.limits.Found.{Found}
-use Rattle.aig.specs.declared.limits.Found.the-variants as F
-use Rattle.aig.specs.declared.limits.Check.{Check}
-use Rattle.aig.specs.declared.limits.Check.the-variants.{Passed, Failed}
-use Rattle.aig.specs.Checks.{failAt}
+use Rattle.checks.specs.declared.Found.{Found}
+use Rattle.checks.specs.declared.Found.the-variants as F
+use Rattle.checks.specs.declared.Check.{Check}
+use Rattle.checks.specs.declared.Check.the-variants.{Passed, Failed}
+use Rattle.checks.specs.Checks.{failAt}
 use Rattle.aig.specs.declared.defs.GateNumber.the-variants as N
 use Rattle.aig.specs.Table as T
 use Rattle.aig.specs.Table.{gateAt, Tells, Tabled}

@@ -12,12 +12,12 @@ use Rattle.circuit.specs.Graph.{Gate}
 use Rattle.circuit.specs.Outcome.{gatesOf}
 use Rattle.circuit.proofs.Words.{gates-length}
 use Rattle.circuit.proofs.Words as W
-use Rattle.aig.specs.declared.limits.Found.{Found}
-use Rattle.aig.specs.declared.limits.Found.the-variants as F
-use Rattle.aig.specs.declared.limits.Check.the-variants.{Passed, Failed}
+use Rattle.checks.specs.declared.Found.{Found}
+use Rattle.checks.specs.declared.Found.the-variants as F
+use Rattle.checks.specs.declared.Check.the-variants.{Passed, Failed}
 use Rattle.aig.specs.Table.{noGate}
 use Rattle.aig.specs.Define.{tabled, defineAt, defineSources, defineGates, judged, defineAll}
-use Rattle.aig.proofs.Rows.{drop-at-one, drop-at-end}
+use Rattle.lent.proofs.Rows.{drop-at-one, drop-at-end}
 
 -- `i` is the code's own index
 pub define-new : (t : List ℕ) (d mark i : ℕ) → i ≡ var d → getD t i 0 ≡ 0 → tabled (set t i mark) F.Nothing ≡ defineAt t d mark

@@ -18,7 +18,7 @@ use Rattle.circuit.proofs.Words.{gates-length, pairs-length}
 use Rattle.circuit.proofs.Renumber.{Done, Answered}
 use Rattle.circuit.proofs.Outcome as O
 use Rattle.aig.specs.Whole.{concluded, Exact}
-use Rattle.aig.proofs.Entries.{images-length}
+use Rattle.lent.proofs.Entries.{images-length}
 use Rattle.aig.proofs.Passing.{outcome-eq, onto-nil, bareOf, answer, late}
 
 -- the words of a front, and what stood past it

@@ -1,8 +1,4 @@
 pub mod Theorems
-pub mod Rows
-pub mod Entries
-pub mod Offenders
-pub mod Sizes
 pub mod Definitions
 pub mod Defining
 pub mod Bounds

@@ -25,9 +25,9 @@ use Rattle.circuit.proofs.Settled.{settled-le}
 use Rattle.circuit.proofs.Lists.{In-right}
 use Rattle.circuit.proofs.Renumber.{Done, Why, Answered, answered}
 use Rattle.circuit.proofs.Outcome as O
-use Rattle.aig.specs.declared.limits.Check.the-variants.{Passed, Failed}
-use Rattle.aig.specs.Checks.{failIf, failAt, passing}
-use Rattle.aig.specs.Lending.{bare}
+use Rattle.checks.specs.declared.Check.the-variants.{Passed, Failed}
+use Rattle.checks.specs.Checks.{failIf, failAt, passing}
+use Rattle.checks.specs.Lending.{bare}
 use Rattle.aig.specs.Whole.{concluded}
 
 pub outcome-eq : (a : Answer) {m m′ n n′ r r′ g g′ s s′ : List ℕ} → m ≡ m′ → n ≡ n′ → r ≡ r′ → g ≡ g′ → s ≡ s′ → outcomeOf a m n r g s ≡ outcomeOf a m′ n′ r′ g′ s′

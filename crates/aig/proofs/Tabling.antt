@@ -21,13 +21,14 @@ use Rattle.circuit.proofs.Checks.{Apart, Again, once, againTest, map-append, ma
 use Rattle.circuit.proofs.Words.{gates-length}
 use Rattle.circuit.proofs.Renumber.{Answered}
 use Rattle.circuit.proofs.Outcome as O
-use Rattle.aig.specs.declared.limits.Check.{Check}
-use Rattle.aig.specs.declared.limits.Check.the-variants.{Passed, Failed}
-use Rattle.aig.specs.Checks.{failAt}
+use Rattle.checks.specs.declared.Check.{Check}
+use Rattle.checks.specs.declared.Check.the-variants.{Passed, Failed}
+use Rattle.checks.specs.Checks.{failAt}
 use Rattle.aig.specs.Lending.{MapRoom}
 use Rattle.aig.specs.Table.{Tabled}
 use Rattle.aig.specs.Define.{judged, defineAll, Definable}
-use Rattle.aig.specs.Whole.{concluded, Exact, Tables, Cleared}
+use Rattle.aig.specs.Whole.{concluded, Exact, Tables}
+use Rattle.lent.specs.Cleared.{Cleared}
 use Rattle.aig.proofs.Bounds.{input-low, word-low, output-low, state-low}
 use Rattle.aig.proofs.Defining.{defines, tables}
 use Rattle.aig.proofs.Passing.{outcome-eq, alone, bareOf, answer, late}

@@ -10,10 +10,10 @@ use Rattle.lit.specs.declared.Lit.{Lit}
 use Rattle.circuit.specs.declared.Refusal.{Refusal}
 use Rattle.circuit.specs.declared.Refusal.the-variants.{Again, StateAgain}
 use Rattle.circuit.specs.Graph.{In, Gate}
-use Rattle.aig.specs.declared.limits.Found.{Found}
-use Rattle.aig.specs.declared.limits.Found.the-variants as F
-use Rattle.aig.specs.declared.limits.Check.{Check}
-use Rattle.aig.specs.declared.limits.Check.the-variants.{Passed, Failed}
+use Rattle.checks.specs.declared.Found.{Found}
+use Rattle.checks.specs.declared.Found.the-variants as F
+use Rattle.checks.specs.declared.Check.{Check}
+use Rattle.checks.specs.declared.Check.the-variants.{Passed, Failed}
 
 -- a table, and the first literal whose variable was defined already
 pub record Defined : Type 0 where

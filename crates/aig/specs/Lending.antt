@@ -1,15 +1,6 @@
--- A circuit by its record and its lists, with nothing lent to be written. Assumes nothing.
+-- What the map at the start asks of the lists. Assumes nothing.
 use Prim.Native.Nat.{ℕ, _<_, _≤_}
-use mathlib.Core.List.{List, []}
-use Rattle.circuit.specs.declared.CircuitRecord.{CircuitRecord}
-use Rattle.circuit.specs.Circuit.{Circuit}
-use Rattle.circuit.specs.Outcome.{Lent, lentOf, circuitOf, limit}
-
-abbrev pub bare : CircuitRecord → List ℕ → List ℕ → List ℕ → List ℕ → List ℕ → Lent
-bare circuit inputs states nexts gates roots = lentOf circuit inputs states nexts gates roots [] [] [] [] []
-
-abbrev pub circuitIn : CircuitRecord → List ℕ → List ℕ → List ℕ → List ℕ → List ℕ → Circuit
-circuitIn circuit inputs states nexts gates roots = circuitOf (bare circuit inputs states nexts gates roots)
+use Rattle.circuit.specs.Outcome.{limit}
 
 -- a map with a word for the constant, and no more inputs and latches than check 1 lets by
 pub record MapRoom (words inputs states : ℕ) : Type 0 where

@@ -1,5 +1,4 @@
 pub mod Lending
-pub mod Checks
 pub mod Table
 pub mod Define
 pub mod Layout

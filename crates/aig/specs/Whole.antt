@@ -3,9 +3,8 @@ use Prim.Native.Nat.{ℕ, _+_, _*_}
 use mathlib.Core.Path.{_≡_}
 use mathlib.Core.Option.{none}
 use mathlib.Core.List.{List, [], _∷_, map}
-use lib.ListN.{length, take, drop, replicate}
+use lib.ListN.{length, take, drop}
 use Rattle.lit.specs.Code.{var}
-use Rattle.circuit.specs.Map.{noImage}
 use Rattle.circuit.specs.Circuit.{definitions, firstAgain, renumber}
 use Rattle.circuit.specs.Outcome.{Lent, Outcome, circuitOf, mapWords, scratchWords, zeros, after}
 use Rattle.circuit.specs.Claims.{Passes}
@@ -31,11 +30,3 @@ pub record Tables (l : Lent) : Type 0 where
   pub six : firstAgain (0 ∷ map var (definitions (circuitOf l))) (l .states) ≡ none
   pub table : Tabled (circuitOf l .gates) (take (mapWords (circuitOf l)) (l .scratch))
   pub clean : drop (mapWords (circuitOf l)) (l .scratch) ≡ zeros (2 * mapWords (circuitOf l) + 3 * length (circuitOf l .gates))
-
--- the lists m, n, r, g, s, and what clearing leaves of them
-pub record Cleared (m n r g s : List ℕ) (map nextImages rootImages gatesOut scratch : List ℕ) : Type 0 where
-  pub noImages : map ≡ replicate (length m) noImage
-  pub noNexts : nextImages ≡ zeros (length n)
-  pub noRoots : rootImages ≡ zeros (length r)
-  pub noGates : gatesOut ≡ zeros (length g)
-  pub noWork : scratch ≡ zeros (length s)

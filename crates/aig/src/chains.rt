@@ -10,12 +10,12 @@ ghost use Rattle.aig.specs.Already.{alreadyOf, madeBefore};
 ghost use Rattle.aig.specs.Chains.{linked};
 ghost use Rattle.aig.specs.Store.{MadeIn, codeAt};
 ghost use Rattle.aig.specs.Settle.{linkedIf};
+use crate::fit::word;
 use crate::fold::Already;
 use crate::fold::Pair;
 use crate::shape::Shape;
 use crate::store;
-use crate::words::wide;
-use crate::words::word;
+use lent::words::wide;
 use lit::Lit;
 
 // The code of gate k.

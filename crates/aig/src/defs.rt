@@ -7,12 +7,12 @@ ghost use Rattle.lit.specs.Code.{var};
 ghost use Rattle.circuit.specs.Outcome.{gatesOf};
 ghost use Rattle.aig.specs.Table.{gateAt};
 ghost use Rattle.aig.specs.Define.{tabled, defineAt, defineSources, defineGates, judged, defineAll, Codes, Definable};
-use crate::limits::Check;
-use crate::limits::Found;
-use crate::words::place_of;
-use crate::words::wide;
-use crate::words::word;
+use crate::fit::word;
+use checks::Check;
+use checks::Found;
 use circuit::Refusal;
+use lent::words::place_of;
+use lent::words::wide;
 use lit::Lit;
 
 pub enum GateNumber {

@@ -6,8 +6,9 @@ ghost use lib.ListN.{length};
 ghost use Rattle.circuit.specs.Circuit.{storeFrom, start};
 ghost use Rattle.circuit.specs.Ordered.{imagesIn};
 ghost use Rattle.aig.specs.Lending.{MapRoom};
-use crate::map;
-use crate::words;
+use crate::fit;
+use lent::map;
+use lent::words;
 use lit::Lit;
 
 // Gives the literals of a list the codes first, first + 2, ..
@@ -32,7 +33,7 @@ pub fn begin(map: &mut [u32], inputs: &[u32], states: &[u32])
     words::fill(map, map::NO_IMAGE);
     map::insert(map, Lit::from_code(0), Lit::from_code(0));
     store_from(map, inputs, 2);
-    store_from(map, states, words::word(2 + 2 * inputs.len()));
+    store_from(map, states, fit::word(2 + 2 * inputs.len()));
 }
 
 // The image of each literal of a list.

@@ -1,32 +1,32 @@
 // Renumbering of AIGER circuits over lent lists: literals get new codes so that a gate's code is larger than those of its inputs.
 mod chains;
-mod clearing;
 mod defs;
+mod fit;
 mod flat;
 mod fold;
 mod images;
-mod limits;
-mod map;
 mod order;
 mod shape;
 mod stack;
 mod store;
 mod walk;
 mod walks;
-mod words;
 
 ghost use mathlib.Core.Path.{_≡_};
 ghost use Rattle.circuit.specs.Map.{imageOf};
 ghost use Rattle.circuit.specs.Outcome.{lentOf, outcomeOf, outcome};
-ghost use Rattle.aig.specs.Lending.{bare};
+ghost use Rattle.checks.specs.Lending.{bare};
 ghost use Rattle.aig.specs.Whole.{concluded, Exact, Tables};
 ghost use Rattle.circuit.specs.Claims.{Passes};
+use checks::Check;
 use circuit::Answer;
 use circuit::CircuitRecord;
 use circuit::Image;
 use circuit::Refusal;
 use circuit::Summary;
-use limits::Check;
+use lent::clearing;
+use lent::map;
+use lent::words;
 use lit::Lit;
 use lit::Var;
 use walk::Walked;
@@ -77,9 +77,9 @@ fn walk_tabled(
             images::images(map, nexts, next_images);
             images::images(map, roots, root_images);
             words::fill(scratch, 0);
-            let top = words::word(inputs.len() + states.len() + made);
+            let top = fit::word(inputs.len() + states.len() + made);
             Answer::Renumbered(Summary {
-                made: words::word(made),
+                made: fit::word(made),
                 top: Var::from_index(top),
             })
         }
@@ -186,7 +186,7 @@ pub fn renumber(
 ) -> Answer
     ensures { λ r. ⌜ outcomeOf r (now (map .exit)) (now («next_images» .exit)) (now («root_images» .exit)) (now («gates_out» .exit)) (now (scratch .exit)) ≡ outcome (lentOf circuit (now (inputs .entry)) (now (states .entry)) (now (nexts .entry)) (now (gates .entry)) (now (roots .entry)) (now (map .entry)) (now («next_images» .entry)) (now («root_images» .entry)) (now («gates_out» .entry)) (now (scratch .entry))) ⌝ }
 {
-    let check = limits::checked(
+    let check = checks::checked(
         circuit,
         inputs,
         states,

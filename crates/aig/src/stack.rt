@@ -6,7 +6,7 @@ ghost use lib.ListN.{getD, set};
 ghost use Rattle.aig.specs.Layout.{Room, stackAt, stackOf};
 ghost use Rattle.aig.specs.Stack.{frameOf, wordOf, inWord, middleIs};
 use crate::shape::Shape;
-use crate::words::wide;
+use lent::words::wide;
 use lit::Lit;
 
 // A literal on the stack, by the input that is under way.

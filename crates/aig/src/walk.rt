@@ -16,13 +16,13 @@ use crate::defs::GateNumber;
 use crate::flat;
 use crate::fold::Already;
 use crate::fold::Pair;
-use crate::map;
 use crate::shape::Shape;
 use crate::stack;
 use crate::stack::Frame;
 use crate::store;
 use circuit::Image;
 use circuit::Refusal;
+use lent::map;
 use lit::Lit;
 
 // The numbers that a step hands on: entries on the stack, gates made.

@@ -3,13 +3,13 @@ ghost use mathlib.Core.List.{_++_};
 ghost use Rattle.circuit.specs.Circuit.{net, start};
 ghost use Rattle.circuit.specs.Circuit as definitions;
 ghost use Rattle.circuit.specs.Walk.{walkAll};
-ghost use Rattle.aig.specs.Lending.{bare, circuitIn};
+ghost use Rattle.checks.specs.Lending.{bare, circuitIn};
 ghost use Rattle.aig.specs.Walked.{WalkReady, WalkEnds};
 use crate::order;
 use crate::shape::Shape;
 use crate::walk::Walked;
-use crate::words::wide;
 use circuit::CircuitRecord;
+use lent::words::wide;
 
 // Gate outputs unless trimmed, next states, roots.
 pub fn walk_all(

@@ -6,7 +6,7 @@ use native.Mathlib.Omega.{arith}
 use mathlib.Core.Path.{ap, _∙_}
 use Rattle.lit.specs.declared.Var.{Var}
 use denote.Ref.{now}
-use Rattle.aig.proofs.Entries.{lookup-above, lookup-within}
+use Rattle.lent.proofs.Entries.{lookup-above, lookup-within}
 
 index-requires : tie.Need-index-requires
 index-requires c κs = search needs

@@ -3,7 +3,7 @@ use borrow.Author.Needs.{needs}
 use Rattle.aig.proofs.chains.find.Statement.{statement}
 use Rattle.aig.proofs.chains.find.Tie as tie
 use native.Mathlib.Omega.{arith}
-use mathlib.Core.Path.{_∙_}
+use mathlib.Core.Path.{sym, _∙_}
 use mathlib.Core.List.{List}
 use Rattle.circuit.specs.Walk.{Pair, firstCode}
 use Rattle.aig.specs.Store.{MadeIn}
@@ -62,7 +62,7 @@ code-at-requires c κs =
 returns : tie.Need-returns Inv-loop μ-loop
 returns c =
     let a = c .before .before .before .before .before .before .before .before .before .before .before .before .before .before .before .before .args in
-    λ made m. cc (seek-hit (a .shape) made (a .out .now) (a .scratch .now) m (c .before .before .before .before .before .before .before .before .before .before .before .before .before .before .before .before .pre .0) _ _ (c .before .before .before .before .loop .k) (c .before .before .before .before .loop .inv made m) (c .before .before .before .loop-test .taken) (c .code-at .result) (cc) (c .code-at .ensures))
+    λ made m. cc (seek-hit (a .shape) made (a .out .now) (a .scratch .now) m (c .before .before .before .before .before .before .before .before .before .before .before .before .before .before .before .before .pre .0) _ _ (c .before .before .before .before .loop .k) (c .before .before .before .before .loop .inv made m) (c .before .before .before .loop-test .taken) (c .code-at .result) (sym (c .before .before .smaller-at .ensures) ∙ c .before .if1 .taken) (c .code-at .ensures))
 
 add-wide-2 : tie.Need-add-wide-2 Inv-loop μ-loop
 add-wide-2 c =

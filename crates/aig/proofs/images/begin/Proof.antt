@@ -4,7 +4,7 @@ use Rattle.aig.proofs.images.begin.Statement.{statement}
 use Rattle.aig.proofs.images.begin.Tie as tie
 use denote.Ref.{now}
 use lib.ListN.{length}
-use Rattle.aig.proofs.Entries.{started}
+use Rattle.lent.proofs.Entries.{started}
 
 fill-requires : tie.Need-fill-requires
 fill-requires c κs = search needs

@@ -8,7 +8,7 @@ use mathlib.Core.Path.{_≡_, _∙_}
 use mathlib.Core.List.{_++_}
 use lib.ListN.{length, take, drop, length-set}
 use Rattle.circuit.specs.Ordered.{imagesIn}
-use Rattle.aig.proofs.Entries.{images-more, images-done}
+use Rattle.lent.proofs.Entries.{images-more, images-done}
 
 abbrev Inv-loop : tie.InvT-loop
 Inv-loop map literals out₀ i₀ out i = (i ≤ length literals) × (length out ≡ length out₀) × (out ≡ take i (imagesIn map literals) ++ drop i out₀)

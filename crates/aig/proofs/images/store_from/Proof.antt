@@ -7,7 +7,7 @@ use Prim.Native.Nat.{_≤_, _-_, _+_, _*_}
 use mathlib.Core.Path.{_≡_, sym, _∙_}
 use lib.ListN.{length, drop}
 use Rattle.circuit.specs.Circuit.{storeFrom}
-use Rattle.aig.proofs.Entries.{storeFrom-on, storeFrom-end}
+use Rattle.lent.proofs.Entries.{storeFrom-on, storeFrom-end}
 
 abbrev Inv-loop : tie.InvT-loop
 Inv-loop map₀ literals first i₀ code₀ map i code = (i ≤ length literals) × (code ≡ first + 2 * i) × (length map ≡ length map₀) × (storeFrom map₀ first literals ≡ storeFrom map code (drop i literals))

@@ -28,7 +28,7 @@ same-length : tie.Need-same-length
 same-length c = search needs
 
 returns-2 : tie.Need-returns-2
-returns-2 c = λ out sources o k. transfer-cycle k (cc) (cc)
+returns-2 c = λ out sources o k. transfer-cycle k (sym (c .before .before .before .before .before .image .ensures) ∙ c .before .before .before .enum-told .given .1) (sym (c .before .middle .ensures) ∙ c .if1 .taken)
 
 gate-of-requires : tie.Need-gate-of-requires
 gate-of-requires c κs = transfer-reads (c .before .before .before .before .before .before .before .before .before .before .pre .1) .inTable
@@ -43,7 +43,7 @@ same-length-2 : tie.Need-same-length-2
 same-length-2 c = search needs
 
 returns-3 : tie.Need-returns-3
-returns-3 c = λ out sources o k. transfer-undefined k (cc) (cc) (cc)
+returns-3 c = λ out sources o k. transfer-undefined k (sym (c .before .before .before .before .before .before .before .before .before .image .ensures) ∙ c .before .before .before .before .before .before .before .enum-told .given .1) (sym (c .before .before .before .before .before .middle .ensures) ∙ c .before .before .before .before .if1 .left) (sym (c .before .before .gate-of .ensures) ∙ c .enum-told2 .given .1)
 
 mul-if2 : tie.Need-mul-if2
 mul-if2 c = search needs
@@ -52,7 +52,7 @@ same-length-3 : tie.Need-same-length-3
 same-length-3 c = search needs
 
 returns-4 : tie.Need-returns-4
-returns-4 c = λ out sources o k. transfer-deep k (cc) (cc) (sym (c .before .before .before .before .before .before .gate-of .ensures) ∙ c .before .before .before .before .number .given .1) (c .if2 .taken)
+returns-4 c = λ out sources o k. transfer-deep k (sym (c .before .before .before .before .before .before .before .before .before .before .before .before .before .image .ensures) ∙ c .before .before .before .before .before .before .before .before .before .before .before .enum-told .given .1) (sym (c .before .before .before .before .before .before .before .before .before .middle .ensures) ∙ c .before .before .before .before .before .before .before .before .if1 .left) (sym (c .before .before .before .before .before .before .gate-of .ensures) ∙ c .before .before .before .before .number .given .1) (c .if2 .taken)
 
 push-requires : tie.Need-push-requires
 push-requires c κs =
@@ -71,7 +71,7 @@ same-length-4 : tie.Need-same-length-4
 same-length-4 c = search needs
 
 returns-5 : tie.Need-returns-5
-returns-5 c = λ out sources o k. as-transfer (c .before .deeper .ensures) (c .first-of .ensures) (c .before .before .before .before .push .ensures) (transfer-enter k (cc) (cc) (sym (c .before .before .before .before .before .before .before .before .before .before .before .before .gate-of .ensures) ∙ c .before .before .before .before .before .before .before .before .before .before .number .given .1) (c .before .before .before .before .before .before .if2 .left))
+returns-5 c = λ out sources o k. as-transfer (c .before .deeper .ensures) (c .first-of .ensures) (c .before .before .before .before .push .ensures) (transfer-enter k (sym (c .before .before .before .before .before .before .before .before .before .before .before .before .before .before .before .before .before .before .before .image .ensures) ∙ c .before .before .before .before .before .before .before .before .before .before .before .before .before .before .before .before .before .enum-told .given .1) (sym (c .before .before .before .before .before .before .before .before .before .before .before .before .before .before .before .middle .ensures) ∙ c .before .before .before .before .before .before .before .before .before .before .before .before .before .before .if1 .left) (sym (c .before .before .before .before .before .before .before .before .before .before .before .before .gate-of .ensures) ∙ c .before .before .before .before .before .before .before .before .before .before .number .given .1) (c .before .before .before .before .before .before .if2 .left))
 
 pub transfer-spec : {M : Type 1} → statement M
 transfer-spec =

@@ -1,0 +1,3 @@
+pub mod Offenders
+pub mod Sizes
+pub mod Theorems

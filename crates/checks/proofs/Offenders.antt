@@ -1,0 +1,100 @@
+-- Laws of check 4 in the code's own terms: a list is searched a code a turn, and the lists one after another. Assumes nothing.
+use Prim.Native.Nat.{ℕ, _+_, _*_, _%_, _<_, _≤_}
+use mathlib.Core.Path.{_≡_, refl, sym, ap, _∙_}
+use mathlib.Core.Bool.{Bool, true, false, cond}
+use mathlib.Core.Option.{some}
+use mathlib.Core.List.{List, [], _∷_, _++_}
+use native.Mathlib.Omega.{arith}
+use lib.Dec.{leb}
+use lib.ListN.{length, getD, drop}
+use borrow.Author.Tests.{le-leb, lt-leb}
+use Rattle.lit.specs.Code.{literal}
+use Rattle.lit.specs.declared.Lit.{Lit}
+use Rattle.circuit.specs.Circuit.{gateCodes, latchCodes, codes, firstOver}
+use Rattle.circuit.specs.Outcome.{Lent, circuitOf, gatesOf}
+use Rattle.checks.specs.declared.Found.{Found}
+use Rattle.checks.specs.declared.Found.the-variants.{Literal, Nothing}
+use Rattle.checks.specs.Checks.{found, Shaped}
+use Rattle.lent.proofs.Rows.{drop-at-one, drop-at-end}
+
+-- one list
+pub over-here : (bound : ℕ) (cs : List ℕ) (i : ℕ) (x : Lit) → i < length cs → bound < getD cs i 0 → x ≡ literal (getD cs i 0)
+    → Literal x ≡ found (firstOver bound (drop i cs))
+over-here bound cs i x h p e = rw (drop-at-one cs i 0 h, lt-leb _ _ p) (ap Literal e)
+
+pub over-on : (bound : ℕ) (cs : List ℕ) (i : ℕ) → i < length cs → getD cs i 0 ≤ bound → firstOver bound (drop i cs) ≡ firstOver bound (drop (i + 1) cs)
+over-on bound cs i h p = rw (drop-at-one cs i 0 h, le-leb _ _ p)
+
+pub over-end : (bound : ℕ) (cs : List ℕ) (i : ℕ) → length cs ≤ i → Nothing ≡ found (firstOver bound (drop i cs))
+over-end bound cs i h = rw (drop-at-end cs i h)
+
+-- latches, a state and a next literal a turn
+module _ (bound : ℕ) (ss ns : List ℕ) (i : ℕ) (same : length ss ≡ length ns) where
+  abbrev pub left : List ℕ
+  left = latchCodes (drop i ss) (drop i ns)
+
+  pub latch-state : (x : Lit) → i < length ss → bound < getD ss i 0 → x ≡ literal (getD ss i 0) → Literal x ≡ found (firstOver bound left)
+  latch-state x h p e = rw (drop-at-one ss i 0 h, drop-at-one ns i 0 (omega arith), lt-leb _ _ p) (ap Literal e)
+
+  pub latch-next : (x : Lit) → i < length ss → getD ss i 0 ≤ bound → bound < getD ns i 0 → x ≡ literal (getD ns i 0) → Literal x ≡ found (firstOver bound left)
+  latch-next x h q p e = rw (drop-at-one ss i 0 h, drop-at-one ns i 0 (omega arith), le-leb _ _ q, lt-leb _ _ p) (ap Literal e)
+
+  pub latch-on : i < length ss → getD ss i 0 ≤ bound → getD ns i 0 ≤ bound → firstOver bound left ≡ firstOver bound (latchCodes (drop (i + 1) ss) (drop (i + 1) ns))
+  latch-on h q p = rw (drop-at-one ss i 0 h, drop-at-one ns i 0 (omega arith), le-leb _ _ q, le-leb _ _ p)
+
+  pub latch-end : length ss ≤ i → Nothing ≡ found (firstOver bound left)
+  latch-end h = rw (drop-at-end ss i h)
+
+-- lists one after another
+abbrev orNext : Found → Found → Found
+orNext (Literal l) next = Literal l
+orNext Nothing next = next
+
+over-append : (bound : ℕ) (xs ys : List ℕ) → found (firstOver bound (xs ++ ys)) ≡ orNext (found (firstOver bound xs)) (found (firstOver bound ys))
+over-append bound [] ys = refl
+over-append bound (x ∷ xs) ys = go (leb x bound) (over-append bound xs ys)
+  where
+    go : (b : Bool) → found (firstOver bound (xs ++ ys)) ≡ orNext (found (firstOver bound xs)) (found (firstOver bound ys))
+        → found (cond b (firstOver bound (xs ++ ys)) (some x)) ≡ orNext (found (cond b (firstOver bound xs) (some x))) (found (firstOver bound ys))
+    go true e = e
+    go false e = refl
+
+-- the codes of whole gates are the words of their flat list
+pub flat-codes : (ws : List ℕ) → length ws % 3 ≡ 0 → gateCodes (gatesOf ws) ≡ ws
+flat-codes [] e = refl
+flat-codes (a ∷ []) e = absurd (omega arith)
+flat-codes (a ∷ b ∷ []) e = absurd (omega arith)
+flat-codes (a ∷ b ∷ c ∷ ws) e = ap {B = List ℕ} (λ l. a ∷ b ∷ c ∷ l) (flat-codes ws (omega arith))
+
+-- all codes of what is lent, where the code has the bound b
+module _ (l : Lent) (b : ℕ) (isBound : b ≡ 2 * circuitOf l .top + 1) (shaped : Shaped (l .states) (l .nexts) (l .gates)) where
+  abbrev first : List ℕ → Found
+  first cs = found (firstOver b cs)
+
+  abbrev whole : Found
+  whole = found (firstOver (2 * circuitOf l .top + 1) (codes (circuitOf l)))
+
+  split : whole ≡ orNext (first (l .inputs)) (orNext (first (l .gates)) (orNext (first (latchCodes (l .states) (l .nexts))) (first (l .roots))))
+  unfolding codes
+  split =
+      ap (λ (k : ℕ). found (firstOver k (l .inputs ++ (gateCodes (gatesOf (l .gates)) ++ (latchCodes (l .states) (l .nexts) ++ l .roots))))) (sym isBound)
+      ∙ over-append b (l .inputs) _
+      ∙ ap (λ (f : Found). orNext (first (l .inputs)) f)
+      (over-append b (gateCodes (gatesOf (l .gates))) _
+      ∙ ap (λ (cs : List ℕ). orNext (first cs) (first (latchCodes (l .states) (l .nexts) ++ l .roots))) (flat-codes (l .gates) (shaped .whole))
+      ∙ ap (λ (f : Found). orNext (first (l .gates)) f) (over-append b (latchCodes (l .states) (l .nexts)) (l .roots)))
+
+  module _ (i : Found) (ei : i ≡ first (l .inputs)) where
+    pub in-inputs : (x : Lit) → i ≡ Literal x → Literal x ≡ whole
+    in-inputs x e = sym (split ∙ rw (sym ei ∙ e))
+
+    module _ (ni : i ≡ Nothing) (g : Found) (eg : g ≡ first (l .gates)) where
+      pub in-gates : (x : Lit) → g ≡ Literal x → Literal x ≡ whole
+      in-gates x e = sym (split ∙ rw (sym ei ∙ ni, sym eg ∙ e))
+
+      module _ (ng : g ≡ Nothing) (s : Found) (es : s ≡ first (latchCodes (l .states) (l .nexts))) where
+        pub in-latches : (x : Lit) → s ≡ Literal x → Literal x ≡ whole
+        in-latches x e = sym (split ∙ rw (sym ei ∙ ni, sym eg ∙ ng, sym es ∙ e))
+
+        pub in-roots : s ≡ Nothing → (r : Found) → r ≡ first (l .roots) → r ≡ whole
+        in-roots ns r er = er ∙ sym (split ∙ rw (sym ei ∙ ni, sym eg ∙ ng, sym es ∙ ns))

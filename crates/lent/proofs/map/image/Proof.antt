@@ -1,0 +1,45 @@
+-- `map::image` meets its contract: each return is one case of a lookup: past the map, an entry for no image, an entry. Assumes nothing.
+use borrow.Author.Needs.{needs}
+use Rattle.lent.proofs.map.image.Statement.{statement}
+use Rattle.lent.proofs.map.image.Tie as tie
+use mathlib.Core.Path.{ap, _∙_}
+use Rattle.lit.specs.declared.Lit.{Lit}
+use Rattle.lit.specs.Code.{flippedBy}
+use Rattle.lent.proofs.Entries.{image-past, image-none, image-some}
+
+place-of-requires : tie.Need-place-of-requires
+place-of-requires c κs = search needs
+
+mul-entry : tie.Need-mul-entry
+mul-entry c = search needs
+
+shared-slice-read-entry : tie.Need-shared-slice-read-entry
+shared-slice-read-entry c = search needs
+
+returns : tie.Need-returns
+returns c = image-none _ _ (c .before .before .before .place-of .result) (c .before .before .before .place-of .ensures) (c .before .before .if1 .taken) (c .if2 .taken)
+
+from-code-requires : tie.Need-from-code-requires
+from-code-requires c κs = search needs
+
+flipped-requires : tie.Need-flipped-requires
+flipped-requires c κs = search needs
+
+returns-2 : tie.Need-returns-2
+returns-2 c = image-some _ _ (c .before .before .before .before .before .place-of .result) _ (c .before .before .before .before .before .place-of .ensures) (c .before .before .before .before .if1 .taken) (c .before .before .if2 .left) (c .flipped .ensures ∙ ap (λ (t : Lit). flippedBy t (c .before .before .before .before .before .before .before .args .lit)) (c .before .from-code .ensures))
+
+returns-3 : tie.Need-returns-3
+returns-3 c = image-past _ _ (c .before .place-of .result) (c .before .place-of .ensures) (c .if1 .left)
+
+pub image-spec : {M : Type 1} → statement M
+image-spec =
+    tie.close
+    (tie.spec
+    place-of-requires
+    mul-entry
+    shared-slice-read-entry
+    returns
+    from-code-requires
+    flipped-requires
+    returns-2
+    returns-3)
