@@ -1,1 +1,2 @@
 pub mod Delta
+pub mod Renumber
