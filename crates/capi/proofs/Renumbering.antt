@@ -1,8 +1,8 @@
 -- The C entry for renumbering: how its tests come out, the record from C's words, and its three ways out. Assumes nothing.
 use Prim.Native.Nat.{ℕ, _/_, _≤_, _<_}
-use mathlib.Core.Path.{_≡_, refl, sym, _∙_, ap}
+use mathlib.Core.Path.{_≡_, refl, ap}
 use mathlib.Core.Logic.{_≢_}
-use mathlib.Core.Bool.{Bool, true, false, cond, not, _||_}
+use mathlib.Core.Bool.{Bool, true, false, not, _||_}
 use mathlib.Core.List.{List, [], _∷_}
 use native.Mathlib.Omega.{arith}
 use lib.Dec.{eqb, ltb}
@@ -16,9 +16,8 @@ use Rattle.circuit.specs.declared.Refusal.the-variants.{Misshapen}
 use Rattle.circuit.specs.declared.Summary.{Summary}
 use Rattle.circuit.specs.declared.Answer.{Answer}
 use Rattle.circuit.specs.declared.Answer.the-variants.{Renumbered, Refused}
-use Rattle.circuit.specs.declared.CircuitRecord.{CircuitRecord}
 use Rattle.circuit.specs.Refusals.{refusalNumber, refusalLiteral}
-use Rattle.circuit.specs.Outcome.{Lent, Outcome, outcomeOf, onto, outcome}
+use Rattle.circuit.specs.Outcome.{Lent, Outcome, onto, outcome}
 use Rattle.circuit.proofs.Tests.{Same, same, other, sameTest}
 use Rattle.capi.specs.Renumber.{seenOf, isSet, recordOf, misgiven, answerNumber, answerWords, told, renumberSeen}
 
@@ -88,4 +87,4 @@ module _ (counts : List ℕ) (flags : ℕ) (l : Lent) (words : List ℕ) where
       → (n ≡ answerNumber (o .answer)) × (ws ≡ onto (answerWords (o .answer)) words)
       → seenOf n (o .map) (o .nextImages) (o .rootImages) (o .gatesOut) (o .scratch) ws ≡ renumberSeen counts flags l words
   unfolding renumberSeen
-  way-on h m o ran n ws p = let e = le-ltb (length words) 3 h in rw (e, m, p .0, p .1, ← ran)
+  way-on h m o ran n ws p = let e = le-ltb (length words) 3 h in rw (e, m, p .0, p .1) (ap (λ (x : Outcome). told x words) ran)

@@ -1,6 +1,7 @@
 -- `imdagluz_renumber` meets its contract: too few answer words, counts or flags that can't be taken, and renumbering are the three ways out, each by
 -- its law. Assumes nothing.
 use mathlib.Core.Path.{sym, _∙_, ap}
+use native.Mathlib.Omega.{arith}
 use denote.Ref.{now}
 use Rattle.circuit.specs.declared.CircuitRecord.{CircuitRecord}
 use Rattle.circuit.specs.Outcome.{lentOf, outcomeOf, outcome}
@@ -11,7 +12,7 @@ use Rattle.capi.proofs.imdagluz_renumber.Statement.{statement}
 use Rattle.capi.proofs.imdagluz_renumber.Tie as tie
 
 returns : tie.Need-returns
-returns c = let a = c .before .before .before .before .before .before .before .before .before .before .before .before .before .args in way-short (now (a .counts)) (a .flags) (lentOf (recordOf (a .top) (now (a .counts)) (a .flags)) (now (a .inputs)) (now (a .states)) (now (a .nexts)) (now (a .gates)) (now (a .roots)) (now (a .map)) (now (a .next-images)) (now (a .root-images)) (now (a .gates-out)) (now (a .scratch))) (now (a .answer)) (c .if1 .taken)
+returns c = let a = c .before .before .before .before .before .before .before .before .before .before .before .before .before .args in way-short (now (a .counts)) (a .flags) (lentOf (recordOf (a .top) (now (a .counts)) (a .flags)) (now (a .inputs)) (now (a .states)) (now (a .nexts)) (now (a .gates)) (now (a .roots)) (now (a .map)) (now (a .next-images)) (now (a .root-images)) (now (a .gates-out)) (now (a .scratch))) (now (a .answer)) (omega arith)
 
 is-misgiven-requires : tie.Need-is-misgiven-requires
 is-misgiven-requires c κs = search needs

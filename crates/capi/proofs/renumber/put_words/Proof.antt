@@ -3,21 +3,20 @@ use mathlib.Core.List.{[], _∷_}
 use native.Mathlib.Omega.{arith}
 use lib.ListN.{length-set}
 use lib.Seq.{sets-eq}
-use borrow.Author.Needs.{needs}
 use Rattle.capi.proofs.renumber.put_words.Statement.{statement}
 use Rattle.capi.proofs.renumber.put_words.Tie as tie
 
 slice-write-words : tie.Need-slice-write-words
-slice-write-words c = search needs
+slice-write-words c = omega arith
 
 slice-write-words-2 : tie.Need-slice-write-words-2
 slice-write-words-2 c = simp length-set (omega arith)
 
 slice-write-words-3 : tie.Need-slice-write-words-3
-slice-write-words-3 c = search needs
+slice-write-words-3 c = simp length-set (omega arith)
 
 same-length : tie.Need-same-length
-same-length c = search needs
+same-length c = simp length-set
 
 returns : tie.Need-returns
 returns c = let a = c .args in sets-eq (a .literal ∷ a .made ∷ a .top ∷ []) (a .words .now) 0 (c .pre)
