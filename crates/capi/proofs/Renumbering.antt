@@ -19,7 +19,7 @@ use Rattle.circuit.specs.declared.Answer.the-variants.{Renumbered, Refused}
 use Rattle.circuit.specs.Refusals.{refusalNumber, refusalLiteral}
 use Rattle.circuit.specs.Outcome.{Lent, Outcome, onto, outcome}
 use Rattle.circuit.proofs.Tests.{Same, same, other, sameTest}
-use Rattle.capi.specs.Renumber.{seenOf, isSet, recordOf, misgiven, answerNumber, answerWords, told, renumberSeen}
+use Rattle.capi.specs.Renumber.{seenOf, isSet, recordOf, misgiven, answerNumber, answerWords, asSeen, renumberSeen}
 
 -- how the test of counts and flags comes out
 module _ (counts : List ℕ) (flags : ℕ) where
@@ -87,4 +87,4 @@ module _ (counts : List ℕ) (flags : ℕ) (l : Lent) (words : List ℕ) where
       → (n ≡ answerNumber (o .answer)) × (ws ≡ onto (answerWords (o .answer)) words)
       → seenOf n (o .map) (o .nextImages) (o .rootImages) (o .gatesOut) (o .scratch) ws ≡ renumberSeen counts flags l words
   unfolding renumberSeen
-  way-on h m o ran n ws p = let e = le-ltb (length words) 3 h in rw (e, m, p .0, p .1) (ap (λ (x : Outcome). told x words) ran)
+  way-on h m o ran n ws p = let e = le-ltb (length words) 3 h in rw (e, m, p .0, p .1) (ap (λ (x : Outcome). asSeen x words) ran)

@@ -58,8 +58,8 @@ answerWords (Renumbered s) = 0 ∷ s .made ∷ s .top .0 ∷ []
 answerWords (Refused why) = refusalLiteral why .0 ∷ 0 ∷ 0 ∷ []
 
 -- an outcome as C sees it; words past the third stay
-abbrev pub told : Outcome → List ℕ → Seen
-told o words =
+abbrev pub asSeen : Outcome → List ℕ → Seen
+asSeen o words =
     seenOf (answerNumber (o .answer)) (o .map) (o .nextImages) (o .rootImages) (o .gatesOut) (o .scratch) (onto (answerWords (o .answer)) words)
 
 -- fewer than three answer words is refusal 3, tested first, and leaves every list; then counts or flags that can't be taken are refusal 2, and
@@ -67,4 +67,4 @@ told o words =
 unfoldable pub renumberSeen : List ℕ → ℕ → Lent → List ℕ → Seen
 renumberSeen counts flags l words =
     cond (ltb (length words) 3) (seenOf 3 (l .map) (l .nextImages) (l .rootImages) (l .gatesOut) (l .scratch) words)
-    (told (cond (misgiven counts flags) (untouched l Misshapen) (outcome l)) words)
+    (asSeen (cond (misgiven counts flags) (untouched l Misshapen) (outcome l)) words)
