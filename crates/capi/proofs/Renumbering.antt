@@ -83,8 +83,10 @@ module _ (counts : List ℕ) (flags : ℕ) (l : Lent) (words : List ℕ) where
   unfolding renumberSeen
   way-misgiven h m n ws p = let e = le-ltb (length words) 3 h in rw (e, m, p .0, p .1)
 
-  pub way-on : 3 ≤ length words → misgiven counts flags ≡ false → (o : Outcome) → o ≡ outcome l → (n : ℕ) (ws : List ℕ)
+  pub way-on : 3 ≤ length words → misgiven counts flags ≡ false → (k : Lent) → k ≡ l → (o : Outcome) → o ≡ outcome k → (n : ℕ) (ws : List ℕ)
       → (n ≡ answerNumber (o .answer)) × (ws ≡ onto (answerWords (o .answer)) words)
       → seenOf n (o .map) (o .nextImages) (o .rootImages) (o .gatesOut) (o .scratch) ws ≡ renumberSeen counts flags l words
   unfolding renumberSeen
-  way-on h m o ran n ws p = let e = le-ltb (length words) 3 h in rw (e, m, p .0, p .1) (ap (λ (x : Outcome). asSeen x words) ran)
+  way-on h m k alike o ran n ws p =
+      let e = le-ltb (length words) 3 h in
+      rw (e, m, p .0, p .1, ← alike) (ap (λ (x : Outcome). asSeen x words) ran)
