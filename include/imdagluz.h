@@ -1,9 +1,10 @@
-/* Imdagluz for C. Link with libcapi.a (`rt staticlib capi` writes target/staticlib/libcapi.a, for x86-64 Linux).
+/* Imdagluz for C. Link with libcapi.a (`rt staticlib capi` writes target/staticlib/libcapi.a, for x86-64 Linux). Of the C library it needs
+ * memset and nothing else.
  *
  * Each function is proved to keep the promises written here, on every input that meets these two duties of the caller:
- *   - a pointer and the length after it name that many bytes, which nothing else writes during the call; the pointer is not NULL, even
- *     where the length is 0, and the length is at most PTRDIFF_MAX;
- *   - bytes that a function may write overlap no other bytes lent to the same call.
+ *   - a pointer and the length after it name that many elements, bytes or words of 32 bits, which nothing else writes during the call; the
+ *     pointer is aligned as its type asks and is not NULL, even where the length is 0, and the elements take at most PTRDIFF_MAX bytes;
+ *   - elements that a function may write overlap no others lent to the same call. Those that are only read may overlap each other.
  * No function allocates, keeps a pointer after it returns, has a state of its own, or fails to return. */
 #ifndef IMDAGLUZ_H
 #define IMDAGLUZ_H
@@ -15,9 +16,17 @@
 extern "C" {
 #endif
 
-/* Refusal numbers of imdagluz_delta. 0 is success. */
+/* Refusal numbers. 0 is success. imdagluz_delta gives 3 and 15 to 17, imdagluz_renumber 1 to 8. */
 enum {
+    IMDAGLUZ_TOO_BIG = 1,         /* V, I, L, G or R is over 1,048,575 */
+    IMDAGLUZ_MISSHAPEN = 2,       /* counts, flags and lengths do not fit together */
     IMDAGLUZ_SHORT_BUFFER = 3,    /* a lent buffer is too short */
+    IMDAGLUZ_CODE_OVER = 4,       /* a code is over 2V+1 */
+    IMDAGLUZ_DEFINED_AGAIN = 5,   /* an input or a gate's output is defined already, under either sign */
+    IMDAGLUZ_STATE_AGAIN = 6,     /* a latch's state is defined already, under either sign */
+    IMDAGLUZ_UNDEFINED = 7,       /* a literal that is reached is not defined */
+    IMDAGLUZ_CYCLE = 8,           /* a gate that is reached needs itself */
+    IMDAGLUZ_TOO_DEEP = 9,        /* no room on the walk's stack; proved never to be given */
     IMDAGLUZ_DELTA_CUT = 15,      /* the delta is cut by the end of the bytes */
     IMDAGLUZ_DELTA_TOO_LONG = 16, /* the delta's eighth byte has its top bit set */
     IMDAGLUZ_DELTA_OVER = 17      /* the delta is over its reference */
@@ -42,6 +51,80 @@ enum {
  * Bytes of out past the ninth are never written. */
 uint32_t imdagluz_delta(const uint8_t *bytes, size_t length, size_t place, uint64_t reference,
                         uint8_t *out, size_t out_length);
+
+/* Flags of imdagluz_renumber, to be added up. */
+enum {
+    IMDAGLUZ_TRIM = 1, /* gates that no next state and no root needs are left out */
+    IMDAGLUZ_HASH = 2, /* gates with the same two inputs become one gate */
+    IMDAGLUZ_FOLD = 4  /* a gate with the input 0 becomes 0, one with the input 1 its other input, one with the same input twice that input */
+};
+
+/* The map's word for a variable that has no image. */
+#define IMDAGLUZ_NO_IMAGE UINT32_C(4294967295)
+
+/* Renumbers a circuit so that the code of every gate is larger than the codes of its inputs. A code c names the variable c/2, negated if c is
+ * odd; the codes 0 and 1 are constant false and true. V is the largest variable, and I, L, G and R count inputs, latches, gates and roots.
+ *
+ * Only read:
+ *   top                              V
+ *   counts, counts_length            five words: how many roots are outputs, bad states, constraints, fairness and justice literals
+ *   flags                            the sum of the flags that are on, 0 to 7
+ *   inputs, inputs_length            I codes
+ *   states, states_length            L codes, the latches' states
+ *   nexts, nexts_length              L codes, the latches' next states in the same order
+ *   gates, gates_length              3G codes, of each gate its output, first and second input; the gates may stand in any order
+ *   roots, roots_length              R codes: outputs, bad states, constraints, fairness, justice, in this order
+ * Written; a list may be longer than is asked here, and the words past those asked are never written:
+ *   map, map_length                  V+1 words
+ *   next_images, next_images_length  L words
+ *   root_images, root_images_length  R words
+ *   gates_out, gates_out_length      2G words
+ *   scratch, scratch_length          3V+3+3G words
+ *   answer, answer_length            3 words: the literal at fault, the number of gates made, the new largest variable
+ *
+ * Answers 0 on success. Then the lists hold
+ *   answer       0; the number g of gates made, at most G; the new largest variable, which is I+L+g, at most V
+ *   map          for each variable v, from 0 to V, the code that the literal 2v became, or IMDAGLUZ_NO_IMAGE where it has none. The literal 2v+1
+ *                became that code with its low bit flipped. map[0] is 0. Inputs became 2, 4, .. in their order, and latch states go on from there;
+ *                where the code given for one is odd, the odd literal became that even code. Besides the constant, inputs and latch states exactly
+ *                the variables that a walked literal needs have an image
+ *   next_images  what the next states became, in their order
+ *   root_images  what the roots became, in their order
+ *   gates_out    of each gate made the larger and then the smaller input; gate k, counted from 0, has the code 2(I+L+1+k), which is above both.
+ *                The words from 2g to 2G-1 are 0
+ *   scratch      3V+3+3G times 0.
+ * Whatever bits inputs and latch states have, a literal with an image and its image have the same bit.
+ * What is walked: with IMDAGLUZ_TRIM off the gates in their order, then next states, then roots; with it on next states, then roots.
+ *
+ * Or answers a refusal, the first of these that applies:
+ *   3  answer_length is below 3; this one writes nothing, not even to answer
+ *   2  counts_length is not 5, or flags is over 7
+ *   1  V, I, L, G or R is over 1,048,575, G being gates_length/3 rounded down
+ *   2  the counts do not add up to R, nexts_length is not states_length, or gates_length is no multiple of three
+ *   3  map, next_images, root_images, gates_out or scratch is shorter than is asked above
+ *   4  a code is over 2V+1. The literal at fault is the first one: inputs, gates (output, first, second), latches (state, next), roots
+ *   5  the variable of an input or a gate's output is that of the constant, or of one before it. The literal at fault is the first one: inputs, gates
+ *   6  the variable of a latch's state is that of the constant, an input, a gate's output or a state before it. The literal at fault is the first one
+ *   7  a literal that the walk reaches is defined nowhere. The literal at fault is that literal, as it was used
+ *   8  a gate that the walk reaches needs itself. The literal at fault is one of such a gate
+ * Of 7 and 8 it is the one that the walk meets first. IMDAGLUZ_TOO_DEEP is proved never to be given.
+ * Every refusal but the first one leaves the literal at fault (0 for 1 to 3), 0 and 0 in answer. Refusals 1 to 4 leave the five other lists as they
+ * were. Refusals 5 to 8 set the V+1 words of map to IMDAGLUZ_NO_IMAGE, and L words of next_images, R of root_images, 2G of gates_out and 3V+3+3G of
+ * scratch to 0.
+ *
+ * Time: with IMDAGLUZ_HASH on, each gate is looked for among all earlier ones with the same larger input; where very many share one, that is slow. */
+uint32_t imdagluz_renumber(uint32_t top, const uint32_t *counts, size_t counts_length, uint32_t flags,
+                           const uint32_t *inputs, size_t inputs_length,
+                           const uint32_t *states, size_t states_length,
+                           const uint32_t *nexts, size_t nexts_length,
+                           const uint32_t *gates, size_t gates_length,
+                           const uint32_t *roots, size_t roots_length,
+                           uint32_t *map, size_t map_length,
+                           uint32_t *next_images, size_t next_images_length,
+                           uint32_t *root_images, size_t root_images_length,
+                           uint32_t *gates_out, size_t gates_out_length,
+                           uint32_t *scratch, size_t scratch_length,
+                           uint32_t *answer, size_t answer_length);
 
 #ifdef __cplusplus
 }

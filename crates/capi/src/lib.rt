@@ -1,9 +1,12 @@
 // What C calls. `include/imdagluz.h` declares it, with every promise in a comment. A slice is a pointer and a length on C's side.
+mod renumber;
+
 ghost use mathlib.Core.Path.{_≡_};
-ghost use Prim.Native.Nat.{_≤_};
-ghost use lib.ListN.{length};
-ghost use Rattle.capi.specs.Delta.{nineBytes, deltaNumber, deltaBytes};
-use token::Token;
+ghost use Rattle.delta_bytes.specs.Delta.{deltaNumber, deltaBytes};
+ghost use Rattle.circuit.specs.Outcome.{lentOf};
+ghost use Rattle.capi.specs.Renumber.{seenOf, recordOf, renumberSeen};
+use circuit::Answer;
+use circuit::Refusal;
 
 // One delta at a place: 0, with the value, low byte first, in the first eight lent bytes and the count of bytes used in the ninth; or a
 // refusal's number, and the lent bytes as they were. Fewer than nine lent bytes is refusal 3, tested first.
@@ -11,37 +14,49 @@ use token::Token;
 pub extern "C" fn imdagluz_delta(s: &[u8], at: usize, reference: u64, out: &mut [u8]) -> u32
     ensures { λ r. ⌜ (r ≡ deltaNumber (now (s .entry)) at reference (now (out .entry))) × (now (out .exit) ≡ deltaBytes (now (s .entry)) at reference (now (out .entry))) ⌝ }
 {
-    if out.len() < 9 {
-        return 3;
-    }
-    match token::delta_code(s, at, reference) {
-        Token::Value { value, used } => {
-            put_value(out, value, used);
-            0
-        }
-        Token::Refused { why, place: _ } => token::number(why),
-    }
+    delta_bytes::put_delta(s, at, reference, out)
 }
 
-// The eight low bytes of a value, and the count of bytes used.
-fn put_value(out: &mut [u8], value: u64, used: usize)
-    requires { ⌜ (9 ≤ length (now out)) × (used ≤ 8) ⌝ }
-    ensures { λ _. ⌜ now (out .exit) ≡ nineBytes value used (now (out .entry)) ⌝ }
+// Renumbers a circuit as `aig::renumber` does: 0, or a refusal's number. The answer goes to the first three words of `answer`: the literal at fault, the
+// gates made, the new largest variable, each 0 where there is none. Fewer than three words is refusal 3, tested first, and writes nothing; then
+// counts that are not five, or flags over 7 (trim 1, hash 2, fold 4), are refusal 2.
+#[no_mangle]
+pub extern "C" fn imdagluz_renumber(
+    top: u32,
+    counts: &[u32],
+    flags: u32,
+    inputs: &[u32],
+    states: &[u32],
+    nexts: &[u32],
+    gates: &[u32],
+    roots: &[u32],
+    map: &mut [u32],
+    next_images: &mut [u32],
+    root_images: &mut [u32],
+    gates_out: &mut [u32],
+    scratch: &mut [u32],
+    answer: &mut [u32],
+) -> u32
+    ensures { λ r. ⌜ seenOf r (now (map .exit)) (now («next_images» .exit)) (now («root_images» .exit)) (now («gates_out» .exit)) (now (scratch .exit)) (now (answer .exit)) ≡ renumberSeen (now (counts .entry)) flags (lentOf (recordOf top (now (counts .entry)) flags) (now (inputs .entry)) (now (states .entry)) (now (nexts .entry)) (now (gates .entry)) (now (roots .entry)) (now (map .entry)) (now («next_images» .entry)) (now («root_images» .entry)) (now («gates_out» .entry)) (now (scratch .entry))) (now (answer .entry)) ⌝ }
 {
-    let v1 = value / 256;
-    let v2 = v1 / 256;
-    let v3 = v2 / 256;
-    let v4 = v3 / 256;
-    let v5 = v4 / 256;
-    let v6 = v5 / 256;
-    let v7 = v6 / 256;
-    out[0] = (value % 256) as u8;
-    out[1] = (v1 % 256) as u8;
-    out[2] = (v2 % 256) as u8;
-    out[3] = (v3 % 256) as u8;
-    out[4] = (v4 % 256) as u8;
-    out[5] = (v5 % 256) as u8;
-    out[6] = (v6 % 256) as u8;
-    out[7] = (v7 % 256) as u8;
-    out[8] = used as u8;
+    if answer.len() < 3 {
+        return 3;
+    }
+    if renumber::is_misgiven(counts, flags) {
+        return renumber::put_answer(Answer::Refused(Refusal::Misshapen), answer);
+    }
+    let said = aig::renumber(
+        renumber::record_of(top, counts, flags),
+        inputs,
+        states,
+        nexts,
+        gates,
+        roots,
+        map,
+        next_images,
+        root_images,
+        gates_out,
+        scratch,
+    );
+    renumber::put_answer(said, answer)
 }

@@ -1,4 +1,4 @@
--- The three ways out of the C entry for one delta: too few lent bytes, a value, a refusal. Assumes nothing.
+-- The three ways out of `put_delta`: too few lent bytes, a value, a refusal. Assumes nothing.
 use Prim.Native.Nat.{ℕ, _≤_, _<_}
 use mathlib.Core.Path.{_≡_}
 use mathlib.Core.List.{List}
@@ -7,7 +7,7 @@ use borrow.Author.Tests.{lt-ltb, le-ltb}
 use Rattle.token.specs.Answer.{reasonNumber, deltaAt}
 use Rattle.token.specs.declared.Reason.{Reason}
 use Rattle.token.specs.declared.Token.the-variants.{Value, Refused}
-use Rattle.capi.specs.Delta.{nineBytes, deltaNumber, deltaBytes}
+use Rattle.delta_bytes.specs.Delta.{nineBytes, deltaNumber, deltaBytes}
 
 module _ (s : List ℕ) (at reference : ℕ) (out : List ℕ) where
   pub entry-short : length out < 9 → (3 ≡ deltaNumber s at reference out) × (out ≡ deltaBytes s at reference out)

@@ -4,9 +4,9 @@ use native.Mathlib.Omega.{arith}
 use lib.ListN.{length-set}
 use lib.Seq.{sets-eq}
 use borrow.Author.Needs.{needs}
-use Rattle.capi.specs.Delta.{lowBytes}
-use Rattle.capi.proofs.put_value.Statement.{statement}
-use Rattle.capi.proofs.put_value.Tie as tie
+use Rattle.delta_bytes.specs.Delta.{lowBytes}
+use Rattle.delta_bytes.proofs.put_value.Statement.{statement}
+use Rattle.delta_bytes.proofs.put_value.Tie as tie
 
 cast-out : tie.Need-cast-out
 cast-out c = search needs

@@ -1,4 +1,4 @@
--- What the C entry for one delta answers, and what it leaves in the lent bytes. Assumes nothing.
+-- What reading one delta into nine lent bytes answers, and what it leaves in them. Assumes nothing.
 use Prim.Native.Nat.{ℕ, zero, suc, _/_, _%_}
 use mathlib.Core.Bool.{cond}
 use mathlib.Core.List.{List, [], _∷_, _++_}

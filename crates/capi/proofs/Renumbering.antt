@@ -1,0 +1,92 @@
+-- The C entry for renumbering: how its tests come out, the record from C's words, and its three ways out. Assumes nothing.
+use Prim.Native.Nat.{ℕ, _/_, _≤_, _<_}
+use mathlib.Core.Path.{_≡_, refl, ap}
+use mathlib.Core.Logic.{_≢_}
+use mathlib.Core.Bool.{Bool, true, false, not, _||_}
+use mathlib.Core.List.{List, [], _∷_}
+use native.Mathlib.Omega.{arith}
+use lib.Dec.{eqb, ltb}
+use lib.ListN.{length, getD}
+use borrow.Author.Tests.{lt-ltb, le-ltb, eq-eqb, ne-eqb}
+use Rattle.lit.specs.Code.{variable}
+use Rattle.lit.specs.declared.Lit.{Lit}
+use Rattle.lit.specs.declared.Var.{Var}
+use Rattle.circuit.specs.declared.Refusal.{Refusal}
+use Rattle.circuit.specs.declared.Refusal.the-variants.{Misshapen}
+use Rattle.circuit.specs.declared.Summary.{Summary}
+use Rattle.circuit.specs.declared.Answer.{Answer}
+use Rattle.circuit.specs.declared.Answer.the-variants.{Renumbered, Refused}
+use Rattle.circuit.specs.Refusals.{refusalNumber, refusalLiteral}
+use Rattle.circuit.specs.Outcome.{Lent, Outcome, onto, outcome}
+use Rattle.circuit.proofs.Tests.{Same, same, other, sameTest}
+use Rattle.capi.specs.Renumber.{seenOf, isSet, recordOf, misgiven, answerNumber, answerWords, asSeen, renumberSeen}
+
+-- how the test of counts and flags comes out
+module _ (counts : List ℕ) (flags : ℕ) where
+  pub counts-other : length counts ≢ 5 → true ≡ misgiven counts flags
+  unfolding misgiven
+  counts-other h = let e = ne-eqb (length counts) 5 h in rw e
+
+  pub counts-five : length counts ≡ 5 → ltb 7 flags ≡ misgiven counts flags
+  unfolding misgiven
+  counts-five h = let e = eq-eqb (length counts) 5 h in rw e
+
+  pub five-counts : misgiven counts flags ≡ false → length counts ≡ 5
+  unfolding misgiven
+  five-counts e = go (eqb (length counts) 5) (sameTest (length counts) 5) e
+    where
+      go : (b : Bool) → Same (length counts) 5 b → not b || ltb 7 flags ≡ false → length counts ≡ 5
+      go b (same h) f = h
+      go b (other h) f = absurd (let z : _≡_ {A = ℕ} 0 1 = cc in omega arith)
+
+-- five counts read one by one are the list
+pub five : (l : List ℕ) → length l ≡ 5 → getD l 0 0 ∷ getD l 1 0 ∷ getD l 2 0 ∷ getD l 3 0 ∷ getD l 4 0 ∷ [] ≡ l
+five [] h = absurd (omega arith)
+five (a ∷ []) h = absurd (omega arith)
+five (a ∷ b ∷ []) h = absurd (omega arith)
+five (a ∷ b ∷ c ∷ []) h = absurd (omega arith)
+five (a ∷ b ∷ c ∷ d ∷ []) h = absurd (omega arith)
+five (a ∷ b ∷ c ∷ d ∷ e ∷ []) h = refl
+five (a ∷ b ∷ c ∷ d ∷ e ∷ f ∷ rest) h = absurd (omega arith)
+
+-- the record, from what was read
+pub record-same : (l : List ℕ) (top flags : ℕ) (v : Var) → length l ≡ 5 → v ≡ variable top
+    → record {
+      top = v;
+      counts = getD l 0 0 ∷ getD l 1 0 ∷ getD l 2 0 ∷ getD l 3 0 ∷ getD l 4 0 ∷ [];
+      trim = isSet flags;
+      hash = isSet (flags / 2);
+      fold = isSet (flags / 4);
+    } ≡ recordOf top l flags
+record-same l top flags v h e = rw (e, five l h)
+
+-- an answer as a number and three words
+pub said-made : (said : Answer) (s : Summary) (top : ℕ) (words ws : List ℕ) → said ≡ Renumbered s → top ≡ s .top .0
+    → ws ≡ onto (0 ∷ s .made ∷ top ∷ []) words → (0 ≡ answerNumber said) × (ws ≡ onto (answerWords said) words)
+said-made said s top words ws e t w = (rw e, rw (e, w, t))
+
+pub said-refused : (said : Answer) (why : Refusal) (n fault : ℕ) (l : Lit) (words ws : List ℕ) → said ≡ Refused why → n ≡ refusalNumber why
+    → fault ≡ l .0 → l ≡ refusalLiteral why → ws ≡ onto (fault ∷ 0 ∷ 0 ∷ []) words
+    → (n ≡ answerNumber said) × (ws ≡ onto (answerWords said) words)
+said-refused said why n fault l words ws e m f a w = (rw (e, m), rw (e, w, f, a))
+
+-- the three ways out
+module _ (counts : List ℕ) (flags : ℕ) (l : Lent) (words : List ℕ) where
+  pub way-short : length words < 3
+      → seenOf 3 (l .map) (l .nextImages) (l .rootImages) (l .gatesOut) (l .scratch) words ≡ renumberSeen counts flags l words
+  unfolding renumberSeen
+  way-short h = let e = lt-ltb (length words) 3 h in rw e
+
+  pub way-misgiven : 3 ≤ length words → misgiven counts flags ≡ true → (n : ℕ) (ws : List ℕ)
+      → (n ≡ answerNumber (Refused Misshapen)) × (ws ≡ onto (answerWords (Refused Misshapen)) words)
+      → seenOf n (l .map) (l .nextImages) (l .rootImages) (l .gatesOut) (l .scratch) ws ≡ renumberSeen counts flags l words
+  unfolding renumberSeen
+  way-misgiven h m n ws p = let e = le-ltb (length words) 3 h in rw (e, m, p .0, p .1)
+
+  pub way-on : 3 ≤ length words → misgiven counts flags ≡ false → (k : Lent) → k ≡ l → (o : Outcome) → o ≡ outcome k → (n : ℕ) (ws : List ℕ)
+      → (n ≡ answerNumber (o .answer)) × (ws ≡ onto (answerWords (o .answer)) words)
+      → seenOf n (o .map) (o .nextImages) (o .rootImages) (o .gatesOut) (o .scratch) ws ≡ renumberSeen counts flags l words
+  unfolding renumberSeen
+  way-on h m k alike o ran n ws p =
+      let e = le-ltb (length words) 3 h in
+      rw (e, m, p .0, p .1, ← alike) (ap (λ (x : Outcome). asSeen x words) ran)

@@ -1,0 +1,27 @@
+-- `renumber::put_words` meets its contract: three stores from place 0 on leave the three words stored, and what stood past them. Assumes nothing.
+use mathlib.Core.List.{[], _∷_}
+use native.Mathlib.Omega.{arith}
+use lib.ListN.{length-set}
+use lib.Seq.{sets-eq}
+use Rattle.capi.proofs.renumber.put_words.Statement.{statement}
+use Rattle.capi.proofs.renumber.put_words.Tie as tie
+
+slice-write-words : tie.Need-slice-write-words
+slice-write-words c = omega arith
+
+slice-write-words-2 : tie.Need-slice-write-words-2
+slice-write-words-2 c = simp length-set (omega arith)
+
+slice-write-words-3 : tie.Need-slice-write-words-3
+slice-write-words-3 c = simp length-set (omega arith)
+
+same-length : tie.Need-same-length
+same-length c = simp length-set
+
+returns : tie.Need-returns
+returns c = let a = c .args in sets-eq (a .literal ∷ a .made ∷ a .top ∷ []) (a .words .now) 0 (c .pre)
+
+pub put-words-spec : {M : Type 1} → statement M
+put-words-spec =
+    tie.close
+    (tie.spec slice-write-words slice-write-words-2 slice-write-words-3 same-length returns)

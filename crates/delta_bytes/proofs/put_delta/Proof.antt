@@ -1,0 +1,58 @@
+-- `put_delta` meets its contract: too few lent bytes, a value, and a refusal are the three ways out, each by its law. Assumes nothing.
+use mathlib.Core.Path.{sym, _∙_}
+use native.Mathlib.Omega.{arith}
+use borrow.Author.Needs.{needs}
+use Rattle.token.proofs.Deltas.{delta-used}
+use Rattle.delta_bytes.proofs.Ways.{entry-short, entry-value, entry-refused}
+use Rattle.delta_bytes.proofs.put_delta.Statement.{statement}
+use Rattle.delta_bytes.proofs.put_delta.Tie as tie
+
+returns : tie.Need-returns
+returns c = entry-short _ _ _ _ (c .if1 .taken)
+
+delta-code-requires : tie.Need-delta-code-requires
+delta-code-requires c κs = search needs
+
+enum-known-value : tie.Need-enum-known-value
+enum-known-value c = search needs
+
+put-value-requires : tie.Need-put-value-requires
+put-value-requires c κs =
+    let a = c .before .before .before .before .before .before .before .before .args in
+    let e = sym (c .before .before .before .before .delta-code .ensures) ∙ c .before .before .value .given .1 in
+    (search needs, omega (arith, delta-used (a .s .now) (a .at) (a .reference) _ _ e))
+
+enum-known-why : tie.Need-enum-known-why
+enum-known-why c = search needs
+
+number-requires : tie.Need-number-requires
+number-requires c κs = search needs
+
+same-length : tie.Need-same-length
+same-length c = search needs
+
+returns-2 : tie.Need-returns-2
+returns-2 c =
+    let e = sym (c .before .before .before .before .before .before .before .delta-code .ensures) ∙ c .before .before .before .before .before .value .given .1 in
+    let d = entry-value _ _ _ _ _ _ (c .before .before .before .before .before .before .before .before .if1 .left) e in
+    (d .0, c .before .before .put-value .ensures ∙ d .1)
+
+returns-3 : tie.Need-returns-3
+returns-3 c =
+    let e = sym (c .before .before .before .before .delta-code .ensures) ∙ c .before .before .why .given .1 in
+    let d = entry-refused _ _ _ _ _ _ (c .before .before .before .before .before .if1 .left) e in
+    (c .number .ensures ∙ d .0, d .1)
+
+pub put-delta-spec : {M : Type 1} → statement M
+put-delta-spec =
+    tie.close
+    (tie.spec
+    returns
+    delta-code-requires
+    enum-known-value
+    put-value-requires
+    enum-known-why
+    number-requires
+    same-length
+    returns-2
+    returns-3)

@@ -1,0 +1,76 @@
+//! The circuits of examples/c/renumber.c from Rust, by the safe function of imdagluz.rs: a million gates that stand backwards, with each of some
+//! flags, and a cycle. Prints the same lines. `tools/c/run` says how it is compiled.
+
+mod imdagluz;
+
+use imdagluz::{renumber, Circuit, Flags, Lists, Ordered, Refusal};
+
+const INPUTS: u32 = 1000;
+const LATCHES: u32 = 1000;
+const SOURCES: u32 = INPUTS + LATCHES;
+const GATES: u32 = 1_000_000;
+const TOP: u32 = SOURCES + GATES;
+
+/// The code of the k-th gate by depth: the deeper a gate, the smaller its code.
+fn gate_code(k: u32) -> u32 {
+    2 * (TOP - k)
+}
+
+/// What the k-th gate takes second: an input, a latch or a gate before it, negated or not.
+fn second_of(k: u32) -> u32 {
+    let mixed = (k + 1).wrapping_mul(2_654_435_761) >> 7;
+    let pick = mixed % (SOURCES + k);
+    let code = if pick < SOURCES { 2 * (pick + 1) } else { gate_code(pick - SOURCES) };
+    code + mixed / 2 % 2
+}
+
+/// Each gate takes the one before it, negated; every tenth takes it twice, and every hundredth is a twin of the gate before it.
+fn gate(k: u32) -> [u32; 3] {
+    let like = if k % 100 == 99 { k - 1 } else { k };
+    let first = if like == 0 { 2 } else { gate_code(like - 1) + 1 };
+    [gate_code(k), first, if like % 10 == 5 { first } else { second_of(like) }]
+}
+
+/// Whether each gate has a code above its larger input, and the larger input first.
+fn in_order(gates: &[u32]) -> bool {
+    gates.chunks(2).zip((2 * (SOURCES + 1)..).step_by(2)).all(|(inputs, code)| inputs[1] <= inputs[0] && inputs[0] < code)
+}
+
+/// Renumbers into lists of just the words that are asked for; answers the gates made and the first root's image too.
+fn renumbered(circuit: &Circuit) -> Result<(Ordered, Vec<u32>, u32), Refusal> {
+    let (top, gates) = (circuit.top as usize, circuit.gates.len() / 3);
+    let (mut map, mut next_images, mut root_images) = (vec![0; top + 1], vec![0; circuit.states.len()], vec![0; circuit.roots.len()]);
+    let (mut gates_out, mut scratch) = (vec![0; 2 * gates], vec![0; 3 * top + 3 + 3 * gates]);
+    let lists = Lists { map: &mut map, next_images: &mut next_images, root_images: &mut root_images, gates_out: &mut gates_out, scratch: &mut scratch };
+    let ordered = renumber(circuit, lists)?;
+    gates_out.truncate(2 * ordered.gates_made as usize);
+    Ok((ordered, gates_out, root_images[0]))
+}
+
+fn print_million(circuit: &Circuit) -> Result<(), Refusal> {
+    let (ordered, gates, root) = renumbered(circuit)?;
+    let Ordered { gates_made, largest_variable } = ordered;
+    print!("flags {}: answer 0, gates made {gates_made}, largest variable {largest_variable}, first root {root}; ", circuit.flags.number());
+    println!("each gate above its inputs, larger input first: {}", if in_order(&gates) { "yes" } else { "no" });
+    Ok(())
+}
+
+fn main() -> Result<(), Refusal> {
+    let inputs: Vec<u32> = (1..=INPUTS).map(|v| 2 * v).collect();
+    let states: Vec<u32> = (INPUTS + 1..=SOURCES).map(|v| 2 * v).collect();
+    let nexts: Vec<u32> = (0..LATCHES).map(|i| gate_code(GATES / LATCHES * i)).collect();
+    let gates: Vec<u32> = (0..GATES).rev().flat_map(gate).collect();
+    let roots = [2 * (SOURCES + 501), 2 * TOP + 1, 7];
+    for (trim, hash, fold) in [(false, false, false), (true, false, false), (false, true, false), (false, false, true), (true, true, true)] {
+        let flags = Flags { trim, hash, fold };
+        print_million(&Circuit { top: TOP, counts: [1, 1, 0, 0, 1], flags, inputs: &inputs, states: &states, nexts: &nexts, gates: &gates, roots: &roots })?;
+    }
+    // gates 4(2,7) and 6(4,2): the variable 3 needs 2, which needs 3
+    let flags = Flags { trim: true, ..Flags::default() };
+    let cycle = Circuit { top: 3, counts: [1, 0, 0, 0, 0], flags, inputs: &[2], states: &[], nexts: &[], gates: &[4, 2, 7, 6, 4, 2], roots: &[6] };
+    match renumbered(&cycle) {
+        Err(Refusal::Cycle(literal)) => println!("a cycle: answer 8, literal {literal}"),
+        other => println!("a cycle: {other:?}"),
+    }
+    Ok(())
+}
