@@ -1,46 +1,28 @@
 -- What renumbering answers and leaves in its lists, as the text of the report. Assumes nothing.
-use Prim.Native.Nat.{ℕ, _+_, _*_, _/_, _%_, _≤_, _<_}
+use Prim.Native.Nat.{ℕ, _+_, _*_, _/_, _%_, _≤_}
 use mathlib.Core.Path.{_≡_, sym, ap, _∙_}
 use mathlib.Core.List.{List}
 use native.Mathlib.Omega.{arith}
-use borrow.Author.Tests.{le-leb, lt-leb, le-ltb, eq-eqb}
+use borrow.Author.Tests.{le-ltb, eq-eqb}
 use lib.ListN.{length, take}
 use Rattle.circuit.specs.declared.Refusal.{Refusal}
 use Rattle.circuit.specs.declared.Summary.{Summary}
 use Rattle.circuit.specs.declared.Answer.{Answer}
 use Rattle.circuit.specs.declared.Answer.the-variants.{Renumbered, Refused}
 use Rattle.circuit.specs.declared.CircuitRecord.{CircuitRecord}
-use Rattle.circuit.specs.Refusals.{refusalNumber, refusalLiteral}
-use Rattle.circuit.specs.Walk.{firstCode}
 use Rattle.circuit.specs.Circuit.{Circuit, renumber}
-use Rattle.circuit.specs.Ordered.{Ordered, orderedOf, gatesFrom}
+use Rattle.circuit.specs.Ordered.{Ordered, orderedOf}
 use Rattle.circuit.specs.Outcome.{Lent, Outcome, lentOf, outcomeOf, gatesOf, limit, total, tooBig, misshapen, tooShort, pairsOf, outcome, held}
 use Rattle.circuit.specs.Claims.{Fits, Succeeds}
 use Rattle.circuit.proofs.Outcome.{conclusion-of, refusal-from}
 use Rattle.circuit.proofs.Success.{success, sizes}
 use Rattle.circuit.proofs.Words.{gates-length}
-use Rattle.sheet.specs.Lines.{refusedLine, orderedLine, gateLine, each}
-use Rattle.sheet.specs.Sheet.{topOf, gateCount, rootCounts, rootCount, recordOn}
-use Rattle.sheet.specs.Report.{beside, refusedText, orderedText, textOf, outText}
+use Rattle.sheet_read.specs.Sheet.{topOf, gateCount, rootCounts, rootCount}
+use Rattle.sheet.specs.Circuit.{recordOn}
+use Rattle.sheet_lines.specs.Text.{refusedText, orderedText}
+use Rattle.sheet.specs.Report.{textOf, outText}
 use Rattle.sheet.specs.Promise.{circuitIn, Shaped, Roomy}
-use Rattle.sheet.proofs.Headers.{bounds}
-
-pub refused-literal : (why : Refusal) (n k m : ℕ) → n ≡ m → k ≡ refusalLiteral why .0 → m ≤ 8 → m ≡ refusalNumber why → refusedLine n k ≡ refusedText why
-unfolding refusedText beside
-refused-literal why n k m p q h e = rw (← e, le-leb m 8 h, p, q)
-
-pub refused-plain : (why : Refusal) (n m : ℕ) → n ≡ m → 8 < m → m ≡ refusalNumber why → refusedLine n 0 ≡ refusedText why
-unfolding refusedText beside
-refused-plain why n m p h e = rw (← e, lt-leb m 8 h, p)
-
--- the first line and the gates' lines, with the numbers as the code has them
-pub ordered-line-same : (a b l c : ℕ) {a′ b′ c′ : ℕ} → a ≡ a′ → b ≡ b′ → c ≡ c′ → orderedLine a b l c ≡ orderedLine a′ b′ l c′
-ordered-line-same a b l c p q r = rw (p, q, r)
-
-pub gate-lines-same : (ws : List ℕ) (w l : ℕ) {i : ℕ} → w ≡ i
-    → each gateLine (gatesFrom (2 * (w + l + 1)) (pairsOf ws)) ≡ each gateLine (gatesFrom (firstCode (i + l)) (pairsOf ws))
-unfolding firstCode
-gate-lines-same ws w l p = rw p
+use Rattle.sheet_read.proofs.Headers.{bounds}
 
 -- a circuit on a sheet, with room for the largest one, passes checks 1 to 3
 module _ (h is ss ns gs rs m n r g w : List ℕ) (shaped : Shaped h is ss ns gs rs) (room : Roomy m n r g w) where

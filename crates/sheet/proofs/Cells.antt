@@ -6,7 +6,7 @@ use native.Mathlib.Numerals.{add-one}
 use native.Mathlib.Omega.{arith}
 use lib.ListN.{length, getD, set, take, length-set}
 use lib.Seq.{take-suc, take-suc-set, take-all}
-use Rattle.sheet.specs.Sheet.{statesOf, nextsOf}
+use Rattle.sheet.specs.Circuit.{statesOf, nextsOf}
 
 -- the first i cells of `to` are those of `from`, which is as long
 pub record Copied (from to : List ℕ) (i : ℕ) : Type 0 where

@@ -4,17 +4,23 @@ use mathlib.Core.Path.{_≡_, refl, sym, ap, _∙_}
 use mathlib.Core.Option.{none, some}
 use mathlib.Core.List.{List, [], _∷_, _++_}
 use native.Mathlib.Omega.{arith}
-use lib.ListN.{length, take, drop, length-append, length-drop, take-append-drop}
+use lib.ListN.{length, getD, take, drop, length-append, length-drop, take-append-drop}
 use lib.Seq.{length-take-le, drop-drop, take-all, take-at}
+use Rattle.lit.specs.Code.{variable}
+use Rattle.lit.specs.declared.Var.{Var}
+use Rattle.circuit.specs.declared.CircuitRecord.{CircuitRecord}
 use Rattle.circuit.specs.Circuit.{Circuit, gateCodes, latchCodes, codes, firstOver, renumber}
 use Rattle.circuit.specs.Outcome.{gatesOf}
-use Rattle.sheet.specs.declared.header.Offender.the-variants.{Nothing, Over}
-use Rattle.sheet.specs.Lines.{refusedLine}
-use Rattle.sheet.specs.Sheet.{topOf, inputCount, latchCount, gateCount, rootCount, codeCount, statesOf, nextsOf, inputCodes, gateWords, latchWords, rootCodes, circuitOn}
-use Rattle.sheet.specs.Report.{beside, refusedText, outText}
-use Rattle.sheet.specs.Promise.{offender, Taken, Words, circuitIn, Shaped}
+use Rattle.sheet_read.specs.declared.Offender.the-variants.{Nothing, Over}
+use Rattle.sheet_lines.specs.Lines.{refusedLine}
+use Rattle.sheet_read.specs.Sheet.{topOf, inputCount, latchCount, gateCount, rootCount, codeCount, flagsOf}
+use Rattle.sheet.specs.Circuit.{statesOf, nextsOf, inputCodes, gateWords, latchWords, rootCodes, circuitOn, isSet, recordOn}
+use Rattle.sheet_lines.specs.Text.{beside, refusedText}
+use Rattle.sheet.specs.Report.{outText}
+use Rattle.sheet_read.specs.Promise.{offender, Taken}
+use Rattle.sheet.specs.Promise.{Words, circuitIn, Shaped}
 use Rattle.sheet.proofs.Cells.{states-length, nexts-length}
-use Rattle.sheet.proofs.Headers.{none-over, bounds, codes-few, none-found, some-found}
+use Rattle.sheet_read.proofs.Headers.{none-over, bounds, codes-few, none-found, some-found, five}
 
 gate-codes : (ws : List ℕ) → length ws % 3 ≡ 0 → gateCodes (gatesOf ws) ≡ ws
 gate-codes [] e = refl
@@ -167,3 +173,12 @@ module _ (h cs : List ℕ) (taken : Taken h) (room : length cs ≡ 7161) (n : �
   over-refused c e =
       codes-over h (take (codeCount h) cs) taken (ap length (sym counted) ∙ codes-long ∙ count) c
       (ap (firstOver (2 * topOf h + 1)) (sym counted) ∙ some-found (2 * topOf h + 1) (take n cs) c e)
+
+-- the record of a header, its numbers read one by one
+abbrev with-counts : List ℕ → Var → List ℕ → CircuitRecord
+with-counts h top counts = record { top = top; counts = counts; trim = isSet (flagsOf h); hash = isSet (flagsOf h / 2); fold = isSet (flagsOf h / 4) }
+
+pub record-same : (h : List ℕ) (top : Var) (a b c d e : ℕ) → length h ≡ 10 → top ≡ variable (topOf h)
+    → a ≡ getD h 4 0 → b ≡ getD h 5 0 → c ≡ getD h 6 0 → d ≡ getD h 7 0 → e ≡ getD h 8 0
+    → record { top = top; counts = a ∷ b ∷ c ∷ d ∷ e ∷ []; trim = isSet (flagsOf h); hash = isSet (flagsOf h / 2); fold = isSet (flagsOf h / 4) } ≡ recordOn h
+record-same h top a b c d e ten p q r s t u = rw (p, q, r, s, t, u) (ap (λ (counts : List ℕ). with-counts h (variable (topOf h)) counts) (five h ten))

@@ -1,8 +1,4 @@
-pub mod Texts
 pub mod Cells
-pub mod Runs
-pub mod Headers
-pub mod Sheets
 pub mod Circuits
 pub mod Answers
 pub mod Room

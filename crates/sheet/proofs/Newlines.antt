@@ -10,11 +10,13 @@ use Rattle.circuit.specs.Circuit.{Circuit, renumber}
 use Rattle.circuit.specs.Ordered.{Ordered, orderedOf, gatesFrom}
 use Rattle.circuit.specs.Outcome.{summaryOf}
 use Rattle.circuit.specs.Refusals.{refusalNumber}
-use Rattle.sheet.specs.declared.Reading.{Reading}
-use Rattle.sheet.specs.declared.Reading.the-variants.{Whole, Faulty}
-use Rattle.sheet.specs.Lines.{spaced, ended, orderedWord, refusedWord, refusedLine, orderedLine, gateLine, imageLine, nextLetter, rootLetter, each}
-use Rattle.sheet.specs.Sheet.{readOf, circuitOn}
-use Rattle.sheet.specs.Report.{beside, refusedText, orderedText, textOf, outText, readText, reportOf}
+use Rattle.sheet_read.specs.declared.Reading.{Reading}
+use Rattle.sheet_read.specs.declared.Reading.the-variants.{Whole, Faulty}
+use Rattle.sheet_lines.specs.Lines.{spaced, ended, orderedWord, refusedWord, refusedLine, orderedLine, gateLine, imageLine, nextLetter, rootLetter, each}
+use Rattle.sheet_read.specs.Sheet.{readOf}
+use Rattle.sheet.specs.Circuit.{circuitOn}
+use Rattle.sheet_lines.specs.Text.{beside, refusedText, orderedText}
+use Rattle.sheet.specs.Report.{textOf, outText, readText, reportOf}
 
 -- a newline stands last
 pub record Ends (bs : List ℕ) : Type 0 where

@@ -18,15 +18,18 @@ use Rattle.circuit.specs.Outcome.{summaryOf}
 use Rattle.circuit.proofs.Renumber.{Limits, Answered, answered}
 use Rattle.circuit.proofs.Settled.{settled-le}
 use Rattle.circuit.proofs.Words.{gates-length}
-use Rattle.sheet.specs.declared.Reading.{Reading}
-use Rattle.sheet.specs.declared.Reading.the-variants.{Whole, Faulty}
-use Rattle.sheet.specs.Lines.{spaced, ended, refusedLine, orderedLine, gateLine, imageLine, nextLetter, rootLetter, each}
-use Rattle.sheet.specs.Sheet.{codeCount, statesOf, nextsOf, inputCodes, gateWords, latchWords, rootCodes, circuitOn, readOf}
-use Rattle.sheet.specs.Report.{refusedText, orderedText, textOf, outText, readText, reportOf, beside}
-use Rattle.sheet.specs.Promise.{Taken, Shaped}
-use Rattle.sheet.proofs.Headers.{bounds}
+use Rattle.sheet_read.specs.declared.Reading.{Reading}
+use Rattle.sheet_read.specs.declared.Reading.the-variants.{Whole, Faulty}
+use Rattle.sheet_lines.specs.Lines.{spaced, ended, refusedLine, orderedLine, gateLine, imageLine, nextLetter, rootLetter, each}
+use Rattle.sheet_read.specs.Sheet.{codeCount, readOf}
+use Rattle.sheet.specs.Circuit.{statesOf, nextsOf, inputCodes, gateWords, latchWords, rootCodes, circuitOn}
+use Rattle.sheet_lines.specs.Text.{refusedText, orderedText, beside}
+use Rattle.sheet.specs.Report.{textOf, outText, readText, reportOf}
+use Rattle.sheet_read.specs.Promise.{Taken}
+use Rattle.sheet.specs.Promise.{Shaped}
+use Rattle.sheet_read.proofs.Headers.{bounds}
 use Rattle.sheet.proofs.Circuits.{words-shaped}
-use Rattle.sheet.proofs.Sheets.{sheet-taken}
+use Rattle.sheet_read.proofs.Sheets.{sheet-taken}
 
 digits-few : (k v : ℕ) → length (digitsUpTo k v) ≤ suc k
 digits-few zero v = omega arith

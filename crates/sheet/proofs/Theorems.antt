@@ -1,13 +1,12 @@
 -- The theorems of the report. What each rests on stands in the laws' files beside this one. Assumes nothing.
-use Prim.Native.Nat.{ℕ, _+_, _^_, _≤_, _<_}
-use mathlib.Core.Path.{_≡_, refl, sym, ap, _∙_}
-use mathlib.Core.List.{List, [], _∷_, _++_}
+use Prim.Native.Nat.{ℕ, _≤_, _<_}
+use mathlib.Core.Path.{_≡_, refl, sym, _∙_}
+use mathlib.Core.List.{List, [], _∷_}
 use lib.ListN.{length, take, replicate}
 use denote.Ref.{now}
 use Rattle.promise.specs.Determined.{DeterminesCells}
 use Rattle.token.specs.Format.{digitsOf}
-use Rattle.token.specs.Answer.{uintAt, binaryAt, goOnAt}
-use Rattle.token.specs.declared.Token.the-variants.{Value}
+use Rattle.token.specs.Answer.{binaryAt, goOnAt}
 use Rattle.circuit.specs.Map.{entryImage, imageIn, store, codeOf}
 use Rattle.circuit.specs.Walk.{walkAll, walk, look, throughInputs, settle, settleOn, settleAs, already, nextCode, firstCode, folded}
 use Rattle.circuit.specs.Circuit.{renumber, codes, walked, start}
@@ -15,42 +14,21 @@ use Rattle.circuit.specs.Ordered.{orderedOf, imagesIn}
 use Rattle.circuit.specs.Outcome.{lentOf, conclusion}
 use Rattle.circuit.proofs.Outcome.{conclusion-of}
 use Rattle.lit.specs.Code.{flipped}
-use Rattle.sheet.specs.Lines.{spaced, ended, refusedLine, orderedLine, gateLine, imageLine}
-use Rattle.sheet.specs.Sheet.{numbersAt, rootCount, tooLarge, codeCount, listsRead, sheetRead, readOf, recordOn, circuitOn, sheetLimit}
-use Rattle.sheet.specs.Report.{beside, orderedText, refusedText, textOf, reportOf}
+use Rattle.sheet_lines.specs.Lines.{refusedLine, orderedLine, gateLine, imageLine}
+use Rattle.sheet_read.specs.Sheet.{numbersAt, rootCount, tooLarge, codeCount, listsRead, sheetRead, readOf, sheetLimit}
+use Rattle.sheet.specs.Circuit.{recordOn, circuitOn}
+use Rattle.sheet_lines.specs.Text.{beside, orderedText, refusedText}
+use Rattle.sheet.specs.Report.{textOf, reportOf}
 use Rattle.sheet.specs.Promise.{Shaped, Roomy, circuitIn}
 use Rattle.sheet.proofs.Answers as answers
 use Rattle.sheet.proofs.Room as room
 use Rattle.sheet.proofs.Newlines as newlines
 use Rattle.sheet.proofs.Newlines.{Ends}
 use Rattle.sheet.proofs.Reports as reports
-use Rattle.sheet.proofs.numbers.Kinds as numbers-kinds
-use Rattle.sheet.proofs.numbers.Reads as numbers-contract
-use Rattle.sheet.proofs.read.Kinds as read-kinds
-use Rattle.sheet.proofs.read.Reads as read-contract
-use Rattle.sheet.proofs.print_ordered.Kinds as print-ordered-kinds
-use Rattle.sheet.proofs.print_ordered.Reads as print-ordered-contract
-use Rattle.sheet.proofs.print_refused.Kinds as print-refused-kinds
-use Rattle.sheet.proofs.print_refused.Reads as print-refused-contract
 use Rattle.sheet.proofs.report.Kinds as report-kinds
 use Rattle.sheet.proofs.report.Reads as report-contract
 
 -- 1. Each contract determines the answer and every lent cell afterwards.
-
-pub one-numbers : DeterminesCells 2 numbers-kinds.ps numbers-kinds.r numbers-contract.Learnt (λ κs e. now (e .1 .1 .0))
-one-numbers κs a x y e f p q = (p .0 ∙ sym (q .0), p .1 ∙ sym (q .1))
-
-pub one-read : DeterminesCells 3 read-kinds.ps read-kinds.r read-contract.Learnt {A = List ℕ × List ℕ} (λ κs e. (now (e .1 .0), now (e .1 .1 .0)))
-one-read κs a x y e f p q = (
-  p .0 ∙ sym (q .0),
-  ap (λ (h : List ℕ). (h, now (e .1 .1 .0))) (p .1 ∙ sym (q .1)) ∙ ap (λ (cs : List ℕ). (now (f .1 .0), cs)) (p .2 ∙ sym (q .2)),
-)
-
-pub one-print-ordered : DeterminesCells 4 print-ordered-kinds.ps print-ordered-kinds.r print-ordered-contract.Learnt (λ κs e. now (e .1 .1 .1 .1 .1 .0))
-one-print-ordered κs a x y e f p q = (p .next ∙ sym (q .next), p .left ∙ sym (q .left))
-
-pub one-print-refused : DeterminesCells 1 print-refused-kinds.ps print-refused-kinds.r print-refused-contract.Learnt (λ κs e. now (e .1 .0))
-one-print-refused κs a x y e f p q = (p .next ∙ sym (q .next), p .left ∙ sym (q .left))
 
 pub one-report : DeterminesCells 2 report-kinds.ps report-kinds.r report-contract.Learnt (λ κs e. now (e .1 .0))
 one-report κs a x y e f p q = (p .1 ∙ sym (q .1), p .0 ∙ sym (q .0))
@@ -107,28 +85,7 @@ fits = room.report-fits
 pub ends : (s : List ℕ) → Ends (reportOf s)
 ends = newlines.report-ends
 
--- 5. What is printed reads back: a number with its space or its newline after it, wherever it stands and whatever follows; so the numbers of a first line.
-
-pub spaced-reads-back : (v : ℕ) → v < 2 ^ 64 → (before after : List ℕ)
-    → uintAt (before ++ (spaced v ++ after)) (length before) ≡ Value v (length (digitsOf v))
-spaced-reads-back = reports.spaced-reads
-
-pub ended-reads-back : (v : ℕ) → v < 2 ^ 64 → (before after : List ℕ)
-    → uintAt (before ++ (ended v ++ after)) (length before) ≡ Value v (length (digitsOf v))
-ended-reads-back = reports.ended-reads
-
-pub refused-reads-back : (n k : ℕ) → n < 2 ^ 64 → k < 2 ^ 64
-    → (uintAt (refusedLine n k) 8 ≡ Value n (length (digitsOf n))) × (uintAt (refusedLine n k) (8 + length (spaced n)) ≡ Value k (length (digitsOf k)))
-refused-reads-back = reports.refused-reads
-
-pub ordered-reads-back : (t i l g : ℕ) → t < 2 ^ 64 → i < 2 ^ 64 → l < 2 ^ 64 → g < 2 ^ 64 → (after : List ℕ)
-    → (uintAt (orderedLine t i l g ++ after) 8 ≡ Value t (length (digitsOf t)))
-    × (uintAt (orderedLine t i l g ++ after) (8 + length (spaced t)) ≡ Value i (length (digitsOf i)))
-    × (uintAt (orderedLine t i l g ++ after) (8 + length (spaced t) + length (spaced i)) ≡ Value l (length (digitsOf l)))
-    × (uintAt (orderedLine t i l g ++ after) (8 + length (spaced t) + length (spaced i) + length (spaced l)) ≡ Value g (length (digitsOf g)))
-ordered-reads-back = reports.ordered-reads
-
--- 6. The library's order: what a sheet announces passes checks 1 to 3, with whatever of room for the largest sheet is lent, so the first that can refuse is
+-- 5. The library's order: what a sheet announces passes checks 1 to 3, with whatever of room for the largest sheet is lent, so the first that can refuse is
 -- check 4.
 
 pub library-order : (h is ss ns gs rs m n r g w : List ℕ) → Shaped h is ss ns gs rs → Roomy m n r g w

@@ -1,4 +1,3 @@
-pub mod Lines
-pub mod Sheet
+pub mod Circuit
 pub mod Report
 pub mod Promise

@@ -3,15 +3,19 @@ ghost use mathlib.Core.Path.{_≡_};
 ghost use Prim.Native.Nat.{_*_};
 ghost use lib.ListN.{length, take};
 ghost use Rattle.circuit.specs.Circuit.{renumber};
-ghost use Rattle.sheet.specs.Sheet.{codeCount, statesOf, nextsOf, circuitOn};
+ghost use Rattle.sheet_read.specs.Sheet.{codeCount};
+ghost use Rattle.sheet.specs.Circuit.{statesOf, nextsOf, circuitOn};
 ghost use Rattle.sheet.specs.Report.{outText};
-ghost use Rattle.sheet.specs.Promise.{Put, Taken, Words, circuitIn, Shaped, Roomy};
+ghost use Rattle.sheet_lines.specs.Promise.{Put};
+ghost use Rattle.sheet_read.specs.Promise.{Taken};
+ghost use Rattle.sheet.specs.Promise.{Words, circuitIn, Shaped, Roomy};
 use crate::header;
-use crate::header::Offender;
-use crate::lines;
-use crate::print_ordered;
-use crate::print_refused;
 use circuit::Answer;
+use sheet_lines::print_ordered;
+use sheet_lines::print_refused;
+use sheet_lines::put_refused;
+use sheet_read::Offender;
+use sheet_read::first_over;
 
 // Room for the largest circuit on a sheet: its words, a word for each latch or root, for the map, for the gates made, and scratch.
 fn all_words() -> [u32; 7161]
@@ -187,13 +191,13 @@ pub fn report_codes(header: &[u64], codes: &[u64], out: &mut [u8]) -> usize
     ensures { λ r. ⌜ Put (now (out .entry)) 0 (outText (circuitOn (now (header .entry)) (take (codeCount (now (header .entry))) (now (codes .entry)))) (renumber (circuitOn (now (header .entry)) (take (codeCount (now (header .entry))) (now (codes .entry)))))) (now (out .exit)) r ⌝ }
 {
     let count = header::code_count(header);
-    let offender = header::first_over(&codes[..count], 2 * header[0] + 1);
+    let offender = first_over(&codes[..count], 2 * header[0] + 1);
     match offender {
         Offender::Nothing => {
             let mut words = all_words();
             narrow(&codes[..count], &mut words[..count]);
             report_words(header, &words[..count], out)
         }
-        Offender::Over(code) => lines::put_refused(out, 4, code),
+        Offender::Over(code) => put_refused(out, 4, code),
     }
 }

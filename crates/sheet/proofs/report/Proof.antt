@@ -1,7 +1,7 @@
 -- `sheet::report` meets its contract: a faulty sheet is refused as it was read, a whole one has the text of its circuit, and every report has a place after it. Assumes nothing.
 use mathlib.Core.Path.{refl, sym}
 use denote.Ref.{now}
-use Rattle.sheet.proofs.Sheets.{sheet-got}
+use Rattle.sheet_read.proofs.Sheets.{sheet-got}
 use Rattle.sheet.proofs.Reports.{report-put, whole-text, faulty-text}
 use borrow.Author.Needs.{needs}
 use Rattle.sheet.proofs.report.Statement.{statement}
@@ -28,8 +28,8 @@ report-codes-requires c κs = ((sheet-got (now (c .before .before .before .befor
 enum-known-reading : tie.Need-enum-known-reading
 enum-known-reading c = search needs
 
-wide-requires : tie.Need-wide-requires
-wide-requires c κs = search needs
+cast-put-refused : tie.Need-cast-put-refused
+cast-put-refused c = search needs
 
 put-refused-requires : tie.Need-put-refused-requires
 put-refused-requires c κs = search needs
@@ -44,7 +44,7 @@ same-length-2 : tie.Need-same-length-2
 same-length-2 c = search needs
 
 returns-2 : tie.Need-returns-2
-returns-2 c = report-put (now (c .before .before .before .before .before .before .before .before .before .before .before .before .before .before .args .sheet)) (c .before .before .put-refused .ensures) (faulty-text (now (c .before .before .before .before .before .before .before .before .before .before .before .before .before .before .args .sheet)) (c .before .before .before .before .before .before .before .before .read .result) _ _ _ (c .before .before .before .before .before .before .before .before .read .ensures .0) (c .before .before .before .before .before .before .reading .given .1) (c .before .before .before .wide .ensures))
+returns-2 c = report-put (now (c .before .before .before .before .before .before .before .before .before .before .before .before .before .args .sheet)) (c .before .before .put-refused .ensures) (faulty-text (now (c .before .before .before .before .before .before .before .before .before .before .before .before .before .args .sheet)) (c .before .before .before .before .before .before .before .read .result) _ _ _ (c .before .before .before .before .before .before .before .read .ensures .0) (c .before .before .before .before .before .reading .given .1) refl)
 
 pub report-spec : {M : Type 1} → statement M
 report-spec =
@@ -57,7 +57,7 @@ report-spec =
     slice-aggregate-report-codes-2
     report-codes-requires
     enum-known-reading
-    wide-requires
+    cast-put-refused
     put-refused-requires
     same-length
     returns

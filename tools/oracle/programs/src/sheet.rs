@@ -55,6 +55,11 @@ pub fn read(sheet: &[u8]) -> Result<Circuit, Refused> {
     })
 }
 
+/// The ten numbers that open a sheet.
+pub fn header(sheet: &[u8]) -> Result<Vec<u64>, Refused> {
+    numbers(&mut LineReader::new(DeferredReader::from_read(sheet)), 10)
+}
+
 fn numbers(reader: &mut LineReader, count: u64) -> Result<Vec<u64>, Refused> {
     let number = |_| {
         token_line::binary_uint(reader)

@@ -9,7 +9,7 @@ use crate::{
 type Maker = fn(&mut Random, u64) -> Vec<u8>;
 
 /// A kind's name, its share, and its maker. Kinds with long sheets have small shares.
-const KINDS: [(&str, u64, Maker); 13] = [
+const KINDS: [(&str, u64, Maker); 15] = [
     ("cut", 20, cut),
     ("byte changed", 20, changed),
     ("bytes appended", 10, appended),
@@ -23,6 +23,8 @@ const KINDS: [(&str, u64, Maker); 13] = [
     ("roots 1,023 or 1,024", 4, roots_at_limit),
     ("a count 1,023 or 1,024", 4, count_at_limit),
     ("length 59,999 to 60,001", 2, length_at_limit),
+    ("length over 60,001", 1, length_far_over),
+    ("empty", 1, |_, _| vec![]),
 ];
 
 /// A sheet of a random kind with up to so many gates, and the kind's name.
@@ -174,6 +176,13 @@ fn length_at_limit(random: &mut Random, gates: u64) -> Vec<u8> {
     };
     let filler = random.pick(&[0x00, 0x01, 0x80]);
     sheet.resize(random.between(59_999, 60_001) as usize, filler);
+    sheet
+}
+
+/// More than the report program reads, and more than a pipe holds.
+fn length_far_over(random: &mut Random, gates: u64) -> Vec<u8> {
+    let mut sheet = valid(random, gates).sheet();
+    sheet.resize(random.between(60_002, 140_000) as usize, 0);
     sheet
 }
 

@@ -1,7 +1,8 @@
 -- `header::circuit_on` meets its contract: no number is over its limit, so each is a word; the five counts are a part of the header. Assumes nothing.
 use native.Mathlib.Omega.{arith}
 use mathlib.Core.Path.{ap, _∙_}
-use Rattle.sheet.proofs.Headers.{taken-at, record-same}
+use Rattle.sheet_read.proofs.Headers.{taken-at}
+use Rattle.sheet.proofs.Circuits.{record-same}
 use Rattle.lit.specs.Code.{variable}
 use denote.Ref.{now}
 use borrow.Author.Needs.{needs}

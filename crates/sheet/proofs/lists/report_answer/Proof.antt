@@ -2,8 +2,8 @@
 use native.Mathlib.Omega.{arith}
 use mathlib.Core.Path.{sym}
 use lib.Seq.{length-take-le}
-use Rattle.sheet.proofs.Headers.{bounds}
-use Rattle.sheet.proofs.Texts.{put-same}
+use Rattle.sheet_read.proofs.Headers.{bounds}
+use Rattle.sheet_lines.proofs.Texts.{put-same}
 use Rattle.sheet.proofs.Answers.{given-made, given-ordered, given-refused}
 use borrow.Author.Needs.{needs}
 use Rattle.sheet.proofs.lists.report_answer.Statement.{statement}

@@ -4,8 +4,8 @@ use mathlib.Core.Path.{sym, _∙_}
 use native.Mathlib.Omega.{arith}
 use lib.Seq.{length-take-le}
 use denote.Ref.{now}
-use Rattle.sheet.proofs.Headers.{codes-few, bounds}
-use Rattle.sheet.proofs.Texts.{put-same}
+use Rattle.sheet_read.proofs.Headers.{codes-few, bounds}
+use Rattle.sheet_lines.proofs.Texts.{put-same}
 use Rattle.sheet.proofs.Circuits.{codes-long, words-front, narrowed-text, narrow-words, over-refused}
 use Rattle.sheet.proofs.lists.report_codes.Statement.{statement}
 use Rattle.sheet.proofs.lists.report_codes.Tie as tie

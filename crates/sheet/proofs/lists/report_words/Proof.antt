@@ -6,10 +6,10 @@ use native.Mathlib.Omega.{arith}
 use lib.Seq.{length-take-le}
 use denote.Ref.{now}
 use Rattle.circuit.specs.Circuit.{Circuit, renumber}
-use Rattle.sheet.specs.Sheet.{inputCount, latchCount, gateCount}
+use Rattle.sheet_read.specs.Sheet.{inputCount, latchCount, gateCount}
 use Rattle.sheet.specs.Report.{outText}
-use Rattle.sheet.proofs.Headers.{bounds}
-use Rattle.sheet.proofs.Texts.{put-same}
+use Rattle.sheet_read.proofs.Headers.{bounds}
+use Rattle.sheet_lines.proofs.Texts.{put-same}
 use Rattle.sheet.proofs.Circuits.{part-of, part-rest, inputs-long, part-long, states-front, nexts-front, parts-end, gates-end, lists-circuit, lists-shaped}
 use Rattle.sheet.proofs.lists.report_words.Statement.{statement}
 use Rattle.sheet.proofs.lists.report_words.Tie as tie

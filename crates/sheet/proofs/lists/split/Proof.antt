@@ -3,7 +3,7 @@ use Prim.Native.Nat.{_-_}
 use native.Mathlib.Omega.{arith}
 use lib.ListN.{length}
 use denote.Ref.{now}
-use Rattle.sheet.specs.Sheet.{statesOf, nextsOf}
+use Rattle.sheet.specs.Circuit.{statesOf, nextsOf}
 use Rattle.sheet.proofs.Cells.{Copied, copied-none, copied-more, copied-all, states-length, nexts-length, states-at, nexts-at}
 use Rattle.sheet.proofs.lists.split.Statement.{statement}
 use Rattle.sheet.proofs.lists.split.Tie as tie

@@ -1,0 +1,27 @@
+-- `sheet_lines::put_image` meets its contract: the parts of the line are put one after the other. Assumes nothing.
+use native.Mathlib.Omega.{arith}
+use Rattle.sheet_lines.specs.Lines.{imageLine}
+use Rattle.sheet_lines.proofs.Texts.{put-byte, put-then}
+use borrow.Author.Needs.{needs}
+use Rattle.sheet_lines.proofs.put_image.Statement.{statement}
+use Rattle.sheet_lines.proofs.put_image.Tie as tie
+
+put-requires : tie.Need-put-requires
+put-requires c κs = search needs
+
+put-requires-2 : tie.Need-put-requires-2
+put-requires-2 c κs = search needs
+
+put-number-requires : tie.Need-put-number-requires
+put-number-requires c κs = search needs
+
+same-length : tie.Need-same-length
+same-length c = search needs
+
+returns : tie.Need-returns
+unfolding imageLine
+returns c = put-then (omega arith) (put-byte (c .before .before .before .before .before .before .before .before .before .before .before .before .before .args .letter) (c .before .before .before .before .before .before .before .before .before .before .put .ensures)) (λ s. put-then s (put-byte 32 (c .before .before .before .before .before .before .put2 .ensures)) (λ _. c .before .before .put-number .ensures))
+
+pub put-image-spec : {M : Type 1} → statement M
+put-image-spec =
+    tie.close (tie.spec put-requires put-requires-2 put-number-requires same-length returns)

@@ -1,0 +1,4 @@
+pub mod Runs
+pub mod Headers
+pub mod Sheets
+pub mod Theorems
