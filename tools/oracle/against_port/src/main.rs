@@ -1,0 +1,223 @@
+//! The port against the crate, in one program: the answer and every word of every lent list.
+//!
+//!     against_port small                         every circuit of up to two gates: all codes, roots, flags
+//!     against_port random SEED COUNT MAXGATES    random circuits of every kind, lent lists of every length near the needed one
+//!     against_port large                         the limits and one over, a long chain, a full stack, a wide fan-out
+//!
+//! Prints how many of each answer there were. At the first difference it prints the smallest circuit it can shrink it to and ends with 1.
+mod outcome;
+mod shrink;
+
+use judge::{circuit::Circuit, circuit_kinds, random::Random};
+use outcome::{by_crate, by_port, Lists};
+use std::{collections::BTreeMap, process::exit};
+
+#[derive(Default)]
+struct Tally {
+    answers: BTreeMap<u32, u64>,
+}
+
+impl Tally {
+    fn compare(&mut self, circuit: &Circuit, spare: [isize; 5]) {
+        let differ = |circuit: &Circuit| {
+            let lists = Lists::lent(circuit, spare);
+            by_port(circuit, lists.clone()) != by_crate(circuit, lists)
+        };
+        let lists = Lists::lent(circuit, spare);
+        let (port, judge) = (by_port(circuit, lists.clone()), by_crate(circuit, lists));
+        if port != judge {
+            show(&shrink::smallest(circuit.clone(), differ), spare);
+            exit(1);
+        }
+        *self.answers.entry(port.number).or_default() += 1;
+    }
+}
+
+fn show(circuit: &Circuit, spare: [isize; 5]) {
+    let lists = Lists::lent(circuit, spare);
+    let Circuit {
+        largest,
+        inputs,
+        gates,
+        latches,
+        roots,
+        flags,
+    } = circuit;
+    println!("DIFFERS V={largest} inputs {inputs:?} gates {gates:?} latches {latches:?} roots {roots:?} flags {flags} spare {spare:?}");
+    println!("  the port:  {:?}", by_port(circuit, lists.clone()));
+    println!("  the crate: {:?}", by_crate(circuit, lists));
+}
+
+fn main() {
+    let arguments: Vec<String> = std::env::args().skip(1).collect();
+    let arguments: Vec<&str> = arguments.iter().map(String::as_str).collect();
+    let number = |text: &str| text.parse::<u64>().expect("a number");
+    let mut tally = Tally::default();
+    match arguments[..] {
+        ["small"] => small(&mut tally),
+        ["random", s, c, g] => random(&mut tally, Random(number(s)), number(c), number(g)),
+        ["large"] => large(&mut tally),
+        _ => {
+            eprintln!("usage: against_port small | random SEED COUNT MAXGATES | large");
+            exit(2)
+        }
+    }
+    let total: u64 = tally.answers.values().sum();
+    println!("{}: {total} circuits, no difference", arguments.join(" "));
+    for (number, count) in tally.answers {
+        match number {
+            0 => println!("  ordered: {count}"),
+            _ => println!("  refused {number}: {count}"),
+        }
+    }
+}
+
+/// Every circuit of up to two gates over an input, with a root, and of up to one gate with a latch too; all codes of V = G + 2, or of V = G + 3 beside a latch,
+/// so of a variable more than need be defined: outputs, states, inputs, next states and roots.
+fn small(tally: &mut Tally) {
+    for flags in 0..8 {
+        for gates in 0..=2 {
+            every(tally, gates, 0, flags);
+        }
+        for gates in 0..=1 {
+            every(tally, gates, 1, flags);
+        }
+    }
+}
+
+fn every(tally: &mut Tally, gates: u32, latches: u32, flags: u64) {
+    let largest = (gates + latches) as u64 + 2;
+    let bound = 2 * largest + 2;
+    for choice in 0..bound.pow(3 * gates + 2 * latches + 1) {
+        let mut rest = choice;
+        let mut next = || {
+            let code = rest % bound;
+            rest /= bound;
+            code
+        };
+        let circuit = Circuit {
+            largest,
+            inputs: vec![2],
+            gates: (0..gates).map(|_| [next(), next(), next()]).collect(),
+            latches: (0..latches).map(|_| [next(), next()]).collect(),
+            roots: [vec![next()], vec![], vec![], vec![], vec![]],
+            flags,
+        };
+        tally.compare(&circuit, [1; 5]);
+    }
+}
+
+fn random(tally: &mut Tally, mut random: Random, count: u64, gates: u64) {
+    let mut made = 0;
+    while made < count {
+        let mut circuit = circuit_kinds::valid(&mut random, gates);
+        let (_, _, fault) = random.pick(&circuit_kinds::FAULTS);
+        fault(&mut random, &mut circuit);
+        if circuit.codes().iter().any(|&code| code > u32::MAX as u64) {
+            continue;
+        }
+        made += 1;
+        let mut spare = [(); 5].map(|()| random.below(3) as isize);
+        if random.percent(3) {
+            spare[random.index(5)] = -1;
+        }
+        tally.compare(&circuit, spare);
+    }
+}
+
+/// Circuits at the limits: each size at 1,048,575 and one over, a chain from its far end, the stack filled, one node used by all.
+fn large(tally: &mut Tally) {
+    const LIMIT: u64 = 1_048_575;
+    let chain = |gates: u64, last: u64, root: u64, flags: u64| Circuit {
+        largest: gates + 1,
+        inputs: vec![2 * (gates + 1)],
+        gates: (1..=gates)
+            .map(|k| {
+                [
+                    2 * k,
+                    if k == gates { last } else { 2 * k + 2 },
+                    2 * (gates + 1),
+                ]
+            })
+            .collect(),
+        roots: [vec![root], vec![], vec![], vec![], vec![]],
+        flags,
+        ..Circuit::default()
+    };
+    for size in [LIMIT, LIMIT + 1] {
+        tally.compare(
+            &Circuit {
+                largest: size,
+                ..Circuit::default()
+            },
+            [0; 5],
+        );
+        tally.compare(
+            &Circuit {
+                largest: LIMIT,
+                inputs: (1..=size).map(|v| 2 * v.min(LIMIT)).collect(),
+                ..Circuit::default()
+            },
+            [0; 5],
+        );
+        tally.compare(
+            &Circuit {
+                largest: LIMIT,
+                latches: (1..=size)
+                    .map(|v| [2 * v.min(LIMIT), 2 * v.min(LIMIT) + 1])
+                    .collect(),
+                ..Circuit::default()
+            },
+            [0; 5],
+        );
+        tally.compare(
+            &Circuit {
+                largest: LIMIT,
+                gates: (1..=size).map(|v| [2 * v.min(LIMIT), 0, 1]).collect(),
+                ..Circuit::default()
+            },
+            [0; 5],
+        );
+        tally.compare(
+            &Circuit {
+                roots: [vec![1; size as usize], vec![], vec![], vec![], vec![]],
+                ..Circuit::default()
+            },
+            [0; 5],
+        );
+    }
+    for flags in 0..8 {
+        // a chain a million gates deep, from its far end
+        tally.compare(&chain(LIMIT - 1, 2 * LIMIT, 2, flags), [1; 5]);
+        // one node with a million fan-outs, as the larger input and as the smaller
+        for node in [2 * LIMIT, 2] {
+            let source = if node == 2 { 1 } else { LIMIT };
+            let gates = (1..=LIMIT)
+                .filter(|&v| v != source)
+                .map(|v| [2 * v, node, v % 2])
+                .collect();
+            tally.compare(
+                &Circuit {
+                    largest: LIMIT,
+                    inputs: vec![node],
+                    gates,
+                    flags,
+                    ..Circuit::default()
+                },
+                [1; 5],
+            );
+        }
+    }
+    for gates in [1, 2, 3, 10, 1_000, LIMIT] {
+        // a cycle that fills the stack of 2G entries: a chain into a gate that feeds itself negated
+        let next = |k: u64| if k == gates { 2 * gates + 1 } else { 2 * k + 2 };
+        let circuit = Circuit {
+            largest: gates,
+            gates: (1..=gates).map(|k| [2 * k, next(k), 0]).collect(),
+            roots: [vec![2], vec![], vec![], vec![], vec![]],
+            flags: 1,
+            ..Circuit::default()
+        };
+        tally.compare(&circuit, [1; 5]);
+    }
+}

@@ -1,0 +1,258 @@
+//! The whole outcome of renumbering a circuit in lent lists: by the port, and by the crate with document 01's checks and buffers around it.
+use flussab_aiger::aig::{OrderedAig, Renumber};
+use judge::{
+    circuit::Circuit,
+    sheet::{self, Refused},
+};
+
+const NO_IMAGE: u32 = u32::MAX;
+const LIMIT: usize = 1_048_575;
+
+/// The lists that are lent and written.
+#[derive(Clone, PartialEq, Eq, Debug)]
+pub struct Lists {
+    pub map: Vec<u32>,
+    pub next_images: Vec<u32>,
+    pub root_images: Vec<u32>,
+    pub gates_out: Vec<u32>,
+    pub scratch: Vec<u32>,
+}
+
+/// The refusal's number or 0; the literal, the gates made and the new largest variable; and the lists afterwards.
+#[derive(PartialEq, Eq, Debug)]
+pub struct Outcome {
+    pub number: u32,
+    pub words: [u32; 3],
+    pub lists: Lists,
+}
+
+/// How many words each list has to have.
+fn needed(circuit: &Circuit) -> [usize; 5] {
+    let (top, gates) = (circuit.largest as usize, circuit.gates.len());
+    let roots = circuit.roots.iter().map(Vec::len).sum();
+    [
+        top + 1,
+        circuit.latches.len(),
+        roots,
+        2 * gates,
+        3 * top + 3 + 3 * gates,
+    ]
+}
+
+impl Lists {
+    /// Lists as long as they have to be and `spare` words more (fewer, where it is negative), filled with words that are easy to tell.
+    pub fn lent(circuit: &Circuit, spare: [isize; 5]) -> Lists {
+        let list = |index: usize| {
+            let length = needed(circuit)[index].saturating_add_signed(spare[index]);
+            (0..length as u32)
+                .map(|word| 0xabcd_0000 ^ word.wrapping_mul(0x9e37) ^ (index as u32) << 20)
+                .collect()
+        };
+        Lists {
+            map: list(0),
+            next_images: list(1),
+            root_images: list(2),
+            gates_out: list(3),
+            scratch: list(4),
+        }
+    }
+
+    fn all(&mut self) -> [&mut Vec<u32>; 5] {
+        [
+            &mut self.map,
+            &mut self.next_images,
+            &mut self.root_images,
+            &mut self.gates_out,
+            &mut self.scratch,
+        ]
+    }
+}
+
+/// A circuit's lists as the port takes them. Every code must fit 32 bits.
+struct Flat {
+    counts: [u32; 5],
+    inputs: Vec<u32>,
+    states: Vec<u32>,
+    nexts: Vec<u32>,
+    gates: Vec<u32>,
+    roots: Vec<u32>,
+}
+
+fn flat(circuit: &Circuit) -> Flat {
+    let word = |&code: &u64| u32::try_from(code).expect("a code of 32 bits");
+    Flat {
+        counts: [0, 1, 2, 3, 4].map(|index: usize| circuit.roots[index].len() as u32),
+        inputs: circuit.inputs.iter().map(word).collect(),
+        states: circuit
+            .latches
+            .iter()
+            .map(|latch| word(&latch[0]))
+            .collect(),
+        nexts: circuit
+            .latches
+            .iter()
+            .map(|latch| word(&latch[1]))
+            .collect(),
+        gates: circuit.gates.iter().flatten().map(word).collect(),
+        roots: circuit.roots.iter().flatten().map(word).collect(),
+    }
+}
+
+extern "C" {
+    #[allow(clippy::too_many_arguments)]
+    fn imdagluz_renumber(
+        top: u32,
+        counts: *const u32,
+        counts_length: usize,
+        flags: u32,
+        inputs: *const u32,
+        inputs_length: usize,
+        states: *const u32,
+        states_length: usize,
+        nexts: *const u32,
+        nexts_length: usize,
+        gates: *const u32,
+        gates_length: usize,
+        roots: *const u32,
+        roots_length: usize,
+        map: *mut u32,
+        map_length: usize,
+        next_images: *mut u32,
+        next_images_length: usize,
+        root_images: *mut u32,
+        root_images_length: usize,
+        gates_out: *mut u32,
+        gates_out_length: usize,
+        scratch: *mut u32,
+        scratch_length: usize,
+        answer: *mut u32,
+        answer_length: usize,
+    ) -> u32;
+}
+
+/// What the port answers and leaves.
+pub fn by_port(circuit: &Circuit, mut lists: Lists) -> Outcome {
+    let flat = flat(circuit);
+    let mut words = [0; 3];
+    let read = |list: &[u32]| (list.as_ptr(), list.len());
+    let (counts, inputs, states) = (read(&flat.counts), read(&flat.inputs), read(&flat.states));
+    let (nexts, gates, roots) = (read(&flat.nexts), read(&flat.gates), read(&flat.roots));
+    let lent = lists.all().map(|list| (list.as_mut_ptr(), list.len()));
+    // Each pointer and length is a whole Vec or array, and no two of those that are written overlap.
+    let number = unsafe {
+        imdagluz_renumber(
+            circuit.largest as u32,
+            counts.0,
+            counts.1,
+            circuit.flags as u32,
+            inputs.0,
+            inputs.1,
+            states.0,
+            states.1,
+            nexts.0,
+            nexts.1,
+            gates.0,
+            gates.1,
+            roots.0,
+            roots.1,
+            lent[0].0,
+            lent[0].1,
+            lent[1].0,
+            lent[1].1,
+            lent[2].0,
+            lent[2].1,
+            lent[3].0,
+            lent[3].1,
+            lent[4].0,
+            lent[4].1,
+            words.as_mut_ptr(),
+            words.len(),
+        )
+    };
+    Outcome {
+        number,
+        words,
+        lists,
+    }
+}
+
+/// What document 01 says: its checks 1 to 3 and 6 and its buffers, and the crate for all else.
+pub fn by_crate(circuit: &Circuit, mut lists: Lists) -> Outcome {
+    let refused = |number: u64, literal: u64, lists: Lists| Outcome {
+        number: number as u32,
+        words: [literal as u32, 0, 0],
+        lists,
+    };
+    let roots: usize = circuit.roots.iter().map(Vec::len).sum();
+    let sizes = [
+        circuit.largest as usize,
+        circuit.inputs.len(),
+        circuit.latches.len(),
+        circuit.gates.len(),
+        roots,
+    ];
+    if sizes.iter().any(|&size| size > LIMIT) {
+        return refused(1, 0, lists);
+    }
+    let needed = needed(circuit);
+    if lists
+        .all()
+        .iter()
+        .zip(needed)
+        .any(|(list, words)| list.len() < words)
+    {
+        return refused(3, 0, lists);
+    }
+    match sheet::renumber(circuit) {
+        Err(Refused(number @ 4, literal)) => refused(number, literal, lists),
+        Err(Refused(number, literal)) => {
+            for (index, list) in lists.all().into_iter().enumerate() {
+                let word = if index == 0 { NO_IMAGE } else { 0 };
+                list[..needed[index]].fill(word);
+            }
+            refused(number, literal, lists)
+        }
+        Ok((ordered, renumber)) => {
+            write(circuit, &ordered, &renumber, &mut lists);
+            Outcome {
+                number: 0,
+                words: [
+                    0,
+                    ordered.and_gates.len() as u32,
+                    ordered.max_var_index as u32,
+                ],
+                lists,
+            }
+        }
+    }
+}
+
+fn write(
+    circuit: &Circuit,
+    ordered: &OrderedAig<u32>,
+    renumber: &Renumber<u32>,
+    lists: &mut Lists,
+) {
+    let needed = needed(circuit);
+    for (variable, entry) in lists.map[..needed[0]].iter_mut().enumerate() {
+        *entry = renumber
+            .lit_map()
+            .get(2 * variable as u32)
+            .unwrap_or(NO_IMAGE);
+    }
+    for (image, latch) in lists.next_images.iter_mut().zip(&ordered.latches) {
+        *image = latch.next_state;
+    }
+    for (image, root) in lists
+        .root_images
+        .iter_mut()
+        .zip(sheet::root_images(ordered))
+    {
+        *image = root;
+    }
+    lists.gates_out[..needed[3]].fill(0);
+    for (pair, gate) in lists.gates_out.chunks_mut(2).zip(&ordered.and_gates) {
+        pair.copy_from_slice(&gate.inputs);
+    }
+    lists.scratch[..needed[4]].fill(0);
+}
