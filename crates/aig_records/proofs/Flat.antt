@@ -44,12 +44,6 @@ module _ (ys : List GateRecord) (xs : List ℕ) (i : ℕ) (room : i * 3 ≤ leng
       let stores : set (set (set (laidOver i ys xs) k (g .output .0)) (k + 1) (g .first .0)) (k + 2) (g .second .0) ≡ sets (laidOver i ys xs) k vs = rw (add-one k, two) in
       stores ∙ sets-eq vs (laidOver i ys xs) k long ∙ ap₂ (λ (a d : List ℕ). a ++ vs ++ d) front back ∙ ap (λ (a : List ℕ). a ++ drop ((i + 1) * 3) xs) (sym one)
 
--- words that are all written
-pub filled : (ws before : List ℕ) (i a : ℕ) → ws ≡ replicate i a ++ drop i before → i ≤ length before → length before ≤ i → ws ≡ replicate (length before) a
-filled ws before i a e h k =
-    let all : i ≡ length before = omega arith in
-    e ∙ ap (λ (n : ℕ). replicate n a ++ drop n before) all ∙ ap (λ (l : List ℕ). replicate (length before) a ++ l) (drop-length before) ∙ append-nil (replicate (length before) a)
-
 -- the front of a list, cleared, and the rest as it was
 pub front-length : (n : ℕ) (ws : List ℕ) → n ≤ length ws → n ≡ length (take n ws)
 front-length n ws h = sym (length-take-le n ws h)

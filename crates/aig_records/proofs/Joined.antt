@@ -24,12 +24,13 @@ use Rattle.circuit.specs.Graph.{In}
 use Rattle.circuit.proofs.Lists.{In-right}
 use Rattle.circuit.proofs.Outcome.{Concluded, concluded, bounds, refusal-of, success-of, conclusion-of}
 use Rattle.aig_records.specs.declared.GateRecord.{GateRecord}
-use Rattle.aig_records.specs.declared.checks.Check.{Check}
-use Rattle.aig_records.specs.declared.checks.Check.the-variants.{Passed, Failed}
-use Rattle.aig_records.specs.declared.checks.Checked.{Checked}
-use Rattle.aig_records.specs.declared.checks.Rooms.{Rooms}
+use Rattle.checks.specs.declared.Check.{Check}
+use Rattle.checks.specs.declared.Check.the-variants.{Passed, Failed}
+use Rattle.aig_records.specs.declared.verdict.Checked.{Checked}
+use Rattle.aig_records.specs.declared.verdict.Rooms.{Rooms}
 use Rattle.aig_records.specs.Records.{recordWords, flatOf, laidOver}
-use Rattle.aig_records.specs.Checks.{overLimit, unequal, lacks, found, orElse, firstIn, overIn, overAll, verdict, planned, checkedOf}
+use Rattle.checks.specs.Checks.{found}
+use Rattle.aig_records.specs.Checks.{overLimit, unequal, lacks, orElse, firstIn, overIn, overAll, verdict, planned, checkedOf}
 use Rattle.aig_records.specs.Outcome.{FlatOutcome, withFlat, flatShort, flatAfter, outcomeOfRecords, finished}
 use Rattle.aig_records.proofs.Flat.{flat-length}
 use Rattle.aig_records.proofs.Overs.{over-append}

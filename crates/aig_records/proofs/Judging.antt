@@ -11,12 +11,12 @@ use Rattle.lit.specs.declared.Lit.{Lit}
 use Rattle.circuit.specs.declared.CircuitRecord.{CircuitRecord}
 use Rattle.circuit.specs.declared.Refusal.the-variants.{TooBig, Misshapen, Short, Over}
 use Rattle.circuit.specs.Outcome.{limit, total}
-use Rattle.aig_records.specs.declared.checks.Found.{Found}
-use Rattle.aig_records.specs.declared.checks.Found.the-variants.{Literal, Nothing}
-use Rattle.aig_records.specs.declared.checks.Check.{Check}
-use Rattle.aig_records.specs.declared.checks.Check.the-variants.{Passed, Failed}
-use Rattle.aig_records.specs.declared.checks.Checked.{Checked}
-use Rattle.aig_records.specs.declared.checks.Rooms.{Rooms}
+use Rattle.checks.specs.declared.Found.{Found}
+use Rattle.checks.specs.declared.Found.the-variants.{Literal, Nothing}
+use Rattle.checks.specs.declared.Check.{Check}
+use Rattle.checks.specs.declared.Check.the-variants.{Passed, Failed}
+use Rattle.aig_records.specs.declared.verdict.Checked.{Checked}
+use Rattle.aig_records.specs.declared.verdict.Rooms.{Rooms}
 use Rattle.aig_records.specs.Checks.{overLimit, unequal, lacks, Small, overAll, refusing, planned, verdict, checkedOf}
 
 or-false : (a b : Bool) → a || b ≡ false → (a ≡ false) × (b ≡ false)
@@ -47,12 +47,6 @@ module _ (circuit : CircuitRecord) (inputs states nexts roots : List ℕ) (gates
       pub judges-uneven : r₂ ≡ true → refusing Misshapen ≡ whole
       unfolding checkedOf
       judges-uneven t = rw (one false n₁, sym e₂ ∙ t)
-
-      pub judges-even : r₂ ≡ false → length states ≡ length nexts
-      unfolding unequal
-      judges-even n =
-          let a = or-false (not (eqb (total (circuit .counts)) (length roots))) (not (eqb (length states) (length nexts))) (sym e₂ ∙ n) in
-          eqb-true (length states) (length nexts) (not-false (eqb (length states) (length nexts)) (a .1))
 
       module _ (n₂ : r₂ ≡ false) (r₃ : Bool) (e₃ : r₃ ≡ lacks v (length states) gates (length roots) rooms) where
         three : (b : Bool) → r₃ ≡ b → lacks (circuit .top .0) (length states) gates (length roots) rooms ≡ b

@@ -1,25 +1,25 @@
 -- Laws of check 4 in the code's own terms: a code is over 2V + 1 where its variable is over V; a list is asked a code a turn, and lists one after another.
 -- Assumes nothing.
 use Prim.Native.Nat.{ℕ, suc, _+_, _*_, _/_, _<_, _≤_}
-use mathlib.Core.Path.{_≡_, refl, sym, ap, ap₂, _∙_}
+use mathlib.Core.Path.{_≡_, refl, sym, ap, _∙_}
 use mathlib.Core.Bool.{Bool, true, false, cond}
 use mathlib.Core.Option.{some}
 use mathlib.Core.List.{List, [], _∷_, _++_}
 use native.Mathlib.Omega.{arith}
 use native.Mathlib.Numerals.{add-one}
 use lib.Dec.{leb, ltb}
-use lib.ListN.{length, getD, take, drop, drop-of-length-le}
-use lib.Seq.{take-suc, take-length, drop-cons}
+use lib.ListN.{length, getD, take}
+use lib.Seq.{take-suc, take-length}
 use borrow.Author.Tests.{lt-ltb, le-ltb}
 use Rattle.lit.specs.Code.{literal}
-use Rattle.lit.specs.declared.Lit.{Lit}
 use Rattle.lit.specs.declared.Var.{Var}
-use Rattle.circuit.specs.Circuit.{latchCodes, firstOver}
+use Rattle.circuit.specs.Circuit.{firstOver}
 use Rattle.circuit.proofs.Tests.{AtMost, atMost, above, leTest}
 use Rattle.aig_records.specs.declared.GateRecord.{GateRecord}
-use Rattle.aig_records.specs.declared.checks.Found.the-variants.{Literal, Nothing}
+use Rattle.checks.specs.declared.Found.the-variants.{Literal, Nothing}
 use Rattle.aig_records.specs.Records.{noGate, flatOf}
-use Rattle.aig_records.specs.Checks.{over, found, orElse, firstIn, overIn}
+use Rattle.checks.specs.Checks.{found}
+use Rattle.aig_records.specs.Checks.{over, orElse, firstIn, overIn}
 use Rattle.aig_records.proofs.Flat.{flat-append}
 
 -- halves
@@ -86,44 +86,3 @@ module _ (top : Var) (g : GateRecord) where
 
       pub at-none : (r : Bool) → r ≡ over (top .0) (g .second .0) → r ≡ false → Nothing ≡ overIn top (g ∷ [])
       at-none r e f = sym (past-first ∙ first-next (top .0) (g .second .0) [] (sym e ∙ f))
-
--- the literal x has the code c, and its test answered b
-pub told : (t c : ℕ) (x : Lit) (r b : Bool) → x ≡ literal c → r ≡ over t (x .0) → r ≡ b → over t c ≡ b
-told t c x r b ex er eb = sym (ap (λ (l : Lit). over t (l .0)) ex) ∙ sym er ∙ eb
-
--- a list, a code a turn: nothing before the code at i is over the bound, so the first of what is left is the first of all
-drop-at-one : (xs : List ℕ) (i : ℕ) → i < length xs → drop i xs ≡ getD xs i 0 ∷ drop (i + 1) xs
-drop-at-one xs i h = rw (add-one i) (drop-cons xs i 0 h)
-
-module _ (t : ℕ) (cs : List ℕ) (i : ℕ) where
-  pub over-here : i < length cs → over t (getD cs i 0) ≡ true → Literal (literal (getD cs i 0)) ≡ firstIn t (drop i cs)
-  over-here h e = sym (ap (firstIn t) (drop-at-one cs i h) ∙ first-here t (getD cs i 0) (drop (i + 1) cs) e)
-
-  pub over-on : i < length cs → over t (getD cs i 0) ≡ false → firstIn t (drop i cs) ≡ firstIn t (drop (i + 1) cs)
-  over-on h e = ap (firstIn t) (drop-at-one cs i h) ∙ first-next t (getD cs i 0) (drop (i + 1) cs) e
-
-  pub over-end : length cs ≤ i → Nothing ≡ firstIn t (drop i cs)
-  over-end h = sym (ap (firstIn t) (drop-of-length-le cs {i = i} h))
-
--- latches, a state and a next literal a turn
-module _ (t : ℕ) (ss ns : List ℕ) (i : ℕ) (same : length ss ≡ length ns) where
-  abbrev pub left : ℕ → List ℕ
-  left k = latchCodes (drop k ss) (drop k ns)
-
-  left-one : i < length ss → left i ≡ getD ss i 0 ∷ getD ns i 0 ∷ left (i + 1)
-  left-one h = ap₂ latchCodes (drop-at-one ss i h) (drop-at-one ns i (omega arith))
-
-  pub latch-state : i < length ss → over t (getD ss i 0) ≡ true → Literal (literal (getD ss i 0)) ≡ firstIn t (left i)
-  latch-state h e = sym (ap (firstIn t) (left-one h) ∙ first-here t (getD ss i 0) (getD ns i 0 ∷ left (i + 1)) e)
-
-  past-state : i < length ss → over t (getD ss i 0) ≡ false → firstIn t (left i) ≡ firstIn t (getD ns i 0 ∷ left (i + 1))
-  past-state h e = ap (firstIn t) (left-one h) ∙ first-next t (getD ss i 0) (getD ns i 0 ∷ left (i + 1)) e
-
-  pub latch-next : i < length ss → over t (getD ss i 0) ≡ false → over t (getD ns i 0) ≡ true → Literal (literal (getD ns i 0)) ≡ firstIn t (left i)
-  latch-next h e f = sym (past-state h e ∙ first-here t (getD ns i 0) (left (i + 1)) f)
-
-  pub latch-on : i < length ss → over t (getD ss i 0) ≡ false → over t (getD ns i 0) ≡ false → firstIn t (left i) ≡ firstIn t (left (i + 1))
-  latch-on h e f = past-state h e ∙ first-next t (getD ns i 0) (left (i + 1)) f
-
-  pub latch-end : length ss ≤ i → Nothing ≡ firstIn t (left i)
-  latch-end h = sym (ap (λ (l : List ℕ). firstIn t (latchCodes l (drop i ns))) (drop-of-length-le ss {i = i} h))

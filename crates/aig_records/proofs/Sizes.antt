@@ -8,7 +8,7 @@ use lib.Dec.{ltb, eqb}
 use lib.ListN.{length, getD}
 use borrow.Author.Tests.{le-ltb, lt-ltb, eq-eqb, ne-eqb}
 use Rattle.circuit.specs.Outcome.{limit, total}
-use Rattle.aig_records.specs.declared.checks.Rooms.{Rooms}
+use Rattle.aig_records.specs.declared.verdict.Rooms.{Rooms}
 use Rattle.aig_records.specs.Checks.{overLimit, unequal, lacks}
 
 -- check 1
@@ -36,20 +36,7 @@ module _ (v i s g r : ℕ) where
         unfolding overLimit
         big-roots h = simp (le-ltb _ _ a, le-ltb _ _ b, le-ltb _ _ c, le-ltb _ _ h)
 
--- check 2: five counts
-total-five : (l : List ℕ) → length l ≡ 5 → getD l 0 0 + (getD l 1 0 + (getD l 2 0 + (getD l 3 0 + getD l 4 0))) ≡ total l
-total-five [] e = absurd (omega arith)
-total-five (a ∷ []) e = absurd (omega arith)
-total-five (a ∷ b ∷ []) e = absurd (omega arith)
-total-five (a ∷ b ∷ c ∷ []) e = absurd (omega arith)
-total-five (a ∷ b ∷ c ∷ d ∷ []) e = absurd (omega arith)
-total-five (a ∷ b ∷ c ∷ d ∷ f ∷ []) e = omega arith
-total-five (a ∷ b ∷ c ∷ d ∷ f ∷ g ∷ l) e = absurd (omega arith)
-
-pub sums : (l : List ℕ) → length l ≡ 5 → {a b c d f : ℕ} → a ≡ getD l 0 0 → b ≡ getD l 1 0 → c ≡ getD l 2 0 → d ≡ getD l 3 0 → f ≡ getD l 4 0
-    → a + (b + (c + (d + f))) ≡ total l
-sums l e p q r s t = rw (p, q, r, s, t) (total-five l e)
-
+-- check 2
 module _ (counts : List ℕ) (states nexts roots sum : ℕ) (isTotal : sum ≡ total counts) where
   pub shape-counts : (sum ≡ roots → ⊥) → true ≡ unequal counts states nexts roots
   unfolding unequal

@@ -1,25 +1,23 @@
 -- Checks 1 to 4 where the gates are records: of sizes, of lent lengths and of codes. Assumes nothing.
-use Prim.Native.Nat.{ℕ, _+_, _*_, _^_, _<_, _≤_}
-use mathlib.Core.Path.{_≡_}
-use mathlib.Core.Bool.{Bool, true, false, not, _||_}
-use mathlib.Core.Option.{Option, none, some}
+use Prim.Native.Nat.{ℕ, _+_, _*_, _≤_}
+use mathlib.Core.Bool.{Bool, not, _||_}
 use mathlib.Core.List.{List}
 use lib.Dec.{eqb, ltb}
 use lib.ListN.{length}
-use Rattle.lit.specs.Code.{literal}
 use Rattle.lit.specs.declared.Var.{Var}
 use Rattle.circuit.specs.declared.CircuitRecord.{CircuitRecord}
 use Rattle.circuit.specs.declared.Refusal.{Refusal}
 use Rattle.circuit.specs.declared.Refusal.the-variants.{TooBig, Misshapen, Short, Over}
 use Rattle.circuit.specs.Circuit.{latchCodes, firstOver}
 use Rattle.circuit.specs.Outcome.{limit, total}
+use Rattle.checks.specs.Checks.{found, failIf}
 use Rattle.aig_records.specs.declared.GateRecord.{GateRecord}
-use Rattle.aig_records.specs.declared.checks.Found.{Found}
-use Rattle.aig_records.specs.declared.checks.Found.the-variants.{Literal, Nothing}
-use Rattle.aig_records.specs.declared.checks.Check.{Check}
-use Rattle.aig_records.specs.declared.checks.Check.the-variants.{Passed, Failed}
-use Rattle.aig_records.specs.declared.checks.Checked.{Checked}
-use Rattle.aig_records.specs.declared.checks.Rooms.{Rooms}
+use Rattle.checks.specs.declared.Found.{Found}
+use Rattle.checks.specs.declared.Found.the-variants.{Literal, Nothing}
+use Rattle.checks.specs.declared.Check.{Check}
+use Rattle.checks.specs.declared.Check.the-variants.{Passed, Failed}
+use Rattle.aig_records.specs.declared.verdict.Checked.{Checked}
+use Rattle.aig_records.specs.declared.verdict.Rooms.{Rooms}
 use Rattle.aig_records.specs.Records.{flatOf}
 
 -- check 1: V, I, L, G or R is over the limit
@@ -42,19 +40,9 @@ pub record Small (top gates : ℕ) : Type 0 where
   pub variables : top ≤ limit
   pub few : gates ≤ limit
 
--- a word as a number
-pub record Counted (word r : ℕ) : Type 0 where
-  pub same : r ≡ word
-  pub fits : r < 2 ^ 32
-
 -- check 4: a code over 2V + 1
 abbrev pub over : ℕ → ℕ → Bool
 over top c = ltb (2 * top + 1) c
-
--- a first offender, as the code answers it
-abbrev pub found : Option ℕ → Found
-found none = Nothing
-found (some c) = Literal (literal c)
 
 -- what was found before, or else what is found after
 abbrev pub orElse : Found → Found → Found
@@ -72,11 +60,7 @@ overIn top gs = firstIn (top .0) (flatOf gs)
 abbrev pub overAll : ℕ → List ℕ → Found → List ℕ → List ℕ → List ℕ → Found
 overAll top inputs gates states nexts roots = orElse (firstIn top inputs) (orElse gates (orElse (firstIn top (latchCodes states nexts)) (firstIn top roots)))
 
--- a check that does not hold fails; else what comes after
-abbrev pub failIf : Bool → Refusal → Check → Check
-failIf true why after = Failed why
-failIf false why after = after
-
+-- a first offender is refused
 abbrev pub failAt : Found → Check
 failAt (Literal l) = Failed (Over l)
 failAt Nothing = Passed

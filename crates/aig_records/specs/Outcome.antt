@@ -9,8 +9,8 @@ use Rattle.circuit.specs.declared.Answer.{Answer}
 use Rattle.circuit.specs.declared.Answer.the-variants.{Renumbered, Refused}
 use Rattle.circuit.specs.Refusals.{refusalNumber}
 use Rattle.circuit.specs.Outcome.{Lent, Outcome, circuitOf, tooBig, misshapen, onto, zeros, untouched, outcome}
-use Rattle.aig_records.specs.declared.checks.Check.{Check}
-use Rattle.aig_records.specs.declared.checks.Check.the-variants.{Passed, Failed}
+use Rattle.checks.specs.declared.Check.{Check}
+use Rattle.checks.specs.declared.Check.the-variants.{Passed, Failed}
 
 -- the outcome, and the sixth list afterwards
 pub record FlatOutcome : Type 0 where

@@ -1,7 +1,6 @@
 // Renumbering where the gates come as records, each an output and two inputs: a thin entry over the one for flat gates.
-mod checks;
 mod records;
-mod words;
+mod verdict;
 
 ghost use mathlib.Core.Path.{_≡_};
 ghost use Prim.Native.Nat.{_*_, _≤_};
@@ -10,11 +9,12 @@ ghost use Rattle.circuit.specs.Outcome.{lentOf, outcomeOf};
 ghost use Rattle.aig_records.specs.Records.{flatOf};
 ghost use Rattle.aig_records.specs.Outcome.{withFlat, outcomeOfRecords, finished};
 use checks::Check;
-use checks::Checked;
-use checks::Rooms;
 use circuit::Answer;
 use circuit::CircuitRecord;
+use lent::words;
 use lit::Lit;
+use verdict::Checked;
+use verdict::Rooms;
 
 // A gate by its output and its two inputs.
 pub struct GateRecord {
@@ -59,7 +59,7 @@ fn finish(
                 gates_out,
                 scratch,
             );
-            words::clear(&mut flat[..words]);
+            words::fill(&mut flat[..words], 0);
             answer
         }
     }
@@ -92,7 +92,7 @@ pub fn renumber_records(
         scratch: scratch.len(),
         flat: flat.len(),
     };
-    let checked = checks::judge(
+    let checked = verdict::judge(
         circuit,
         inputs,
         states,

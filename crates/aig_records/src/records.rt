@@ -6,9 +6,9 @@ ghost use mathlib.Core.List.{[], _∷_};
 ghost use Rattle.aig_records.specs.Records.{codesOf, laidOver};
 ghost use Rattle.aig_records.specs.Checks.{orElse, overIn};
 use crate::GateRecord;
-use crate::checks::Found;
-use crate::checks::is_over;
-use crate::checks::or_else;
+use crate::verdict::is_over;
+use crate::verdict::or_else;
+use checks::Found;
 use lit::Var;
 
 // A gate's three codes.

@@ -29,18 +29,22 @@ pub over-end : (bound : ℕ) (cs : List ℕ) (i : ℕ) → length cs ≤ i → N
 over-end bound cs i h = rw (drop-at-end cs i h)
 
 -- latches, a state and a next literal a turn
-module _ (bound : ℕ) (ss ns : List ℕ) (i : ℕ) (same : length ss ≡ length ns) where
+module _ (bound : ℕ) (ss ns : List ℕ) (i : ℕ) where
   abbrev pub left : List ℕ
   left = latchCodes (drop i ss) (drop i ns)
 
-  pub latch-state : (x : Lit) → i < length ss → bound < getD ss i 0 → x ≡ literal (getD ss i 0) → Literal x ≡ found (firstOver bound left)
-  latch-state x h p e = rw (drop-at-one ss i 0 h, drop-at-one ns i 0 (omega arith), lt-leb _ _ p) (ap Literal e)
+  module _ (h : i < length ss) (k : i < length ns) where
+    pub latch-state : (x : Lit) → bound < getD ss i 0 → x ≡ literal (getD ss i 0) → Literal x ≡ found (firstOver bound left)
+    latch-state x p e = rw (drop-at-one ss i 0 h, drop-at-one ns i 0 k, lt-leb _ _ p) (ap Literal e)
 
-  pub latch-next : (x : Lit) → i < length ss → getD ss i 0 ≤ bound → bound < getD ns i 0 → x ≡ literal (getD ns i 0) → Literal x ≡ found (firstOver bound left)
-  latch-next x h q p e = rw (drop-at-one ss i 0 h, drop-at-one ns i 0 (omega arith), le-leb _ _ q, lt-leb _ _ p) (ap Literal e)
+    pub latch-next : (x : Lit) → getD ss i 0 ≤ bound → bound < getD ns i 0 → x ≡ literal (getD ns i 0) → Literal x ≡ found (firstOver bound left)
+    latch-next x q p e = rw (drop-at-one ss i 0 h, drop-at-one ns i 0 k, le-leb _ _ q, lt-leb _ _ p) (ap Literal e)
 
-  pub latch-on : i < length ss → getD ss i 0 ≤ bound → getD ns i 0 ≤ bound → firstOver bound left ≡ firstOver bound (latchCodes (drop (i + 1) ss) (drop (i + 1) ns))
-  latch-on h q p = rw (drop-at-one ss i 0 h, drop-at-one ns i 0 (omega arith), le-leb _ _ q, le-leb _ _ p)
+    pub latch-on : getD ss i 0 ≤ bound → getD ns i 0 ≤ bound → firstOver bound left ≡ firstOver bound (latchCodes (drop (i + 1) ss) (drop (i + 1) ns))
+    latch-on q p = rw (drop-at-one ss i 0 h, drop-at-one ns i 0 k, le-leb _ _ q, le-leb _ _ p)
+
+  pub latch-short : i < length ss → length ns ≤ i → Nothing ≡ found (firstOver bound left)
+  latch-short h k = rw (drop-at-one ss i 0 h, drop-at-end ns i k)
 
   pub latch-end : length ss ≤ i → Nothing ≡ found (firstOver bound left)
   latch-end h = rw (drop-at-end ss i h)

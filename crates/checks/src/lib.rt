@@ -59,7 +59,8 @@ fn count(word: u32) -> usize
     word as usize
 }
 
-fn sum(counts: [u32; 5]) -> usize
+// The sum of the five counts.
+pub fn sum(counts: [u32; 5]) -> usize
     ensures { λ r. ⌜ r ≡ total counts ⌝ }
 {
     count(counts[0])
@@ -117,7 +118,7 @@ fn is_short(
 }
 
 // The first code of a list that is over the bound.
-fn over_in(codes: &[u32], bound: usize) -> Found
+pub fn over_in(codes: &[u32], bound: usize) -> Found
     ensures { λ r. ⌜ r ≡ found (firstOver bound (now (codes .entry))) ⌝ }
 {
     let mut i = 0;
@@ -131,13 +132,15 @@ fn over_in(codes: &[u32], bound: usize) -> Found
     Found::Nothing
 }
 
-// The same of latches, each by its state and then its next literal.
-fn over_in_latches(states: &[u32], nexts: &[u32], bound: usize) -> Found
-    requires { ⌜ length (now states) ≡ length (now nexts) ⌝ }
+// The same of latches, each by its state and then its next literal; a state that has no next literal is not looked at.
+pub fn over_in_latches(states: &[u32], nexts: &[u32], bound: usize) -> Found
     ensures { λ r. ⌜ r ≡ found (firstOver bound (latchCodes (now (states .entry)) (now (nexts .entry)))) ⌝ }
 {
     let mut i = 0;
     while i < states.len() {
+        if nexts.len() <= i {
+            return Found::Nothing;
+        }
         let state = states[i];
         if bound < wide(state) {
             return Found::Literal(Lit::from_code(state));

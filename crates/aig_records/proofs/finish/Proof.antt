@@ -7,7 +7,7 @@ use Prim.Native.Nat.{_*_}
 use mathlib.Core.Path.{sym, ap}
 use lib.ListN.{take}
 use Rattle.circuit.specs.Outcome.{lentOf}
-use Rattle.aig_records.specs.declared.checks.Check.{Check}
+use Rattle.checks.specs.declared.Check.{Check}
 use Rattle.aig_records.specs.Outcome.{finished}
 use Rattle.aig_records.proofs.Flat.{front-length}
 use Rattle.aig_records.proofs.Joined.{finish-passed}
@@ -30,14 +30,14 @@ slice-aggregate-renumber c = front-length _ (now (c .before .before .before .bef
 renumber-requires : tie.Need-renumber-requires
 renumber-requires c κs = search needs
 
-slice-relend-prefix-clear : tie.Need-slice-relend-prefix-clear
-slice-relend-prefix-clear c = search needs
+slice-relend-prefix-fill : tie.Need-slice-relend-prefix-fill
+slice-relend-prefix-fill c = search needs
 
-slice-aggregate-clear : tie.Need-slice-aggregate-clear
-slice-aggregate-clear c = front-length _ (now (c .before .before .before .before .before .before .before .before .before .before .before .before .before .before .before .before .before .before .before .before .before .before .before .before .before .before .before .before .before .before .before .args .flat)) (c .before .before .before .before .before .before .before .before .before .before .before .before .before .before .before .before .before .before .before .before .before .before .before .before .before .before .before .before .before .before .before .pre)
+slice-aggregate-fill : tie.Need-slice-aggregate-fill
+slice-aggregate-fill c = front-length _ (now (c .before .before .before .before .before .before .before .before .before .before .before .before .before .before .before .before .before .before .before .before .before .before .before .before .before .before .before .before .before .before .before .args .flat)) (c .before .before .before .before .before .before .before .before .before .before .before .before .before .before .before .before .before .before .before .before .before .before .before .before .before .before .before .before .before .before .before .pre)
 
-clear-requires : tie.Need-clear-requires
-clear-requires c κs = search needs
+fill-requires : tie.Need-fill-requires
+fill-requires c κs = search needs
 
 returns : tie.Need-returns
 returns c = let a = c .before .before .before .before .before .before .before .before .before .before .before .before .before .args in sym (ap (λ (k : Check). finished k (lentOf (a .circuit) (now (a .inputs)) (now (a .states)) (now (a .nexts)) (take (a .checked .laid * 3) (now (a .flat))) (now (a .roots)) (now (a .map)) (now (a .next-images)) (now (a .root-images)) (now (a .gates-out)) (now (a .scratch))) (now (a .flat))) (c .before .check .given .1))
@@ -61,7 +61,7 @@ same-length-6 : tie.Need-same-length-6
 same-length-6 c = search needs
 
 returns-2 : tie.Need-returns-2
-returns-2 c = let a = c .before .before .before .before .before .before .before .before .before .before .before .before .before .before .before .before .before .before .before .before .before .before .before .before .before .before .before .before .before .before .before .before .before .before .args in finish-passed (lentOf (a .circuit) (now (a .inputs)) (now (a .states)) (now (a .nexts)) (take (a .checked .laid * 3) (now (a .flat))) (now (a .roots)) (now (a .map)) (now (a .next-images)) (now (a .root-images)) (now (a .gates-out)) (now (a .scratch))) (now (a .flat)) (a .checked .laid * 3) (sym (front-length _ (now (a .flat)) (c .before .before .before .before .before .before .before .before .before .before .before .before .before .before .before .before .before .before .before .before .before .before .before .before .before .before .before .before .before .before .before .before .before .before .pre))) (a .checked .check) (cc) _ (c .before .before .before .before .before .before .before .before .before .before .before .before .before .before .renumber .ensures) _ (c .before .before .clear .ensures)
+returns-2 c = let a = c .before .before .before .before .before .before .before .before .before .before .before .before .before .before .before .before .before .before .before .before .before .before .before .before .before .before .before .before .before .before .before .before .before .before .args in finish-passed (lentOf (a .circuit) (now (a .inputs)) (now (a .states)) (now (a .nexts)) (take (a .checked .laid * 3) (now (a .flat))) (now (a .roots)) (now (a .map)) (now (a .next-images)) (now (a .root-images)) (now (a .gates-out)) (now (a .scratch))) (now (a .flat)) (a .checked .laid * 3) (sym (front-length _ (now (a .flat)) (c .before .before .before .before .before .before .before .before .before .before .before .before .before .before .before .before .before .before .before .before .before .before .before .before .before .before .before .before .before .before .before .before .before .before .pre))) (a .checked .check) (cc) _ (c .before .before .before .before .before .before .before .before .before .before .before .before .before .before .renumber .ensures) _ (c .before .before .fill .ensures)
 
 pub finish-spec : {M : Type 1} → statement M
 finish-spec =
@@ -73,9 +73,9 @@ finish-spec =
     slice-reshare-prefix-renumber
     slice-aggregate-renumber
     renumber-requires
-    slice-relend-prefix-clear
-    slice-aggregate-clear
-    clear-requires
+    slice-relend-prefix-fill
+    slice-aggregate-fill
+    fill-requires
     returns
     same-length
     same-length-2

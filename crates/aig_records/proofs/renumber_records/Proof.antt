@@ -56,27 +56,27 @@ use Rattle.aig_records.specs.Records.{laidOver}
 use Rattle.aig_records.specs.Checks.{overIn, checkedOf}
 use Rattle.aig_records.specs.Outcome.{withFlat, finished}
 use Rattle.aig_records.specs.declared.GateRecord.{GateRecord}
-use Rattle.aig_records.specs.declared.checks.Found.{Found}
-use Rattle.aig_records.specs.declared.checks.Rooms.{Rooms}
-use Rattle.aig_records.specs.declared.checks.Checked.{Checked}
+use Rattle.checks.specs.declared.Found.{Found}
+use Rattle.aig_records.specs.declared.verdict.Rooms.{Rooms}
+use Rattle.aig_records.specs.declared.verdict.Checked.{Checked}
 use Rattle.aig_records.proofs.Flat.{laid-length}
 use Rattle.aig_records.proofs.Asked.{asked, asked-where}
 use Rattle.aig_records.proofs.Again.{LentAgain, lends-again, comes-back}
 use Rattle.aig_records.proofs.Judging.{few-laid, laid-in-room}
 use Rattle.aig_records.proofs.Joined.{joined}
 use Rattle.aig_records.proofs.GateRecord as G
-use Rattle.aig_records.proofs.checks.Found as F
-use Rattle.aig_records.proofs.checks.Found.Laws as F′
-use Rattle.aig_records.proofs.checks.Rooms as Rm
-use Rattle.aig_records.proofs.checks.Rooms.Laws as Rm′
-use Rattle.aig_records.proofs.checks.Checked as Ck
-use Rattle.aig_records.proofs.checks.Checked.Laws as Ck′
+use Rattle.checks.proofs.Found as F
+use Rattle.checks.proofs.Found.Laws as F′
+use Rattle.aig_records.proofs.verdict.Rooms as Rm
+use Rattle.aig_records.proofs.verdict.Rooms.Laws as Rm′
+use Rattle.aig_records.proofs.verdict.Checked as Ck
+use Rattle.aig_records.proofs.verdict.Checked.Laws as Ck′
 use Rattle.aig_records.proofs.records.first_over as first-over
 use Rattle.aig_records.proofs.records.first_over.Symbol as first-over-def
 use Rattle.aig_records.proofs.records.first_over.Met as first-over-meets
-use Rattle.aig_records.proofs.checks.judge as judge
-use Rattle.aig_records.proofs.checks.judge.Symbol as judge-def
-use Rattle.aig_records.proofs.checks.judge.Met as judge-meets
+use Rattle.aig_records.proofs.verdict.judge as judge
+use Rattle.aig_records.proofs.verdict.judge.Symbol as judge-def
+use Rattle.aig_records.proofs.verdict.judge.Met as judge-meets
 use Rattle.aig_records.proofs.records.flatten as flatten
 use Rattle.aig_records.proofs.records.flatten.Symbol as flatten-def
 use Rattle.aig_records.proofs.records.flatten.Met as flatten-meets
@@ -445,6 +445,6 @@ renumber-records-spec 𝓤 H 𝓜 𝓖 𝓡 =
     (tables 𝓤 H 𝓜 𝓡 code.env .C) (tables 𝓤 H 𝓜 𝓡 code.env .Λ) #renumber-records code.function (code.unfolded 𝓤 H 𝓜 𝓡)
     (entry-meets 𝓤 H (𝓖 .A) (givenOf 𝓤 H 𝓜 𝓖) (𝓜 .mem) (𝓡 .run) (tablesOf 𝓤 H 𝓜 (tables 𝓤 H 𝓜 𝓡 code.env))
     (cited 𝓤 H (tripleOf 𝓤 H (𝓖 .A) first-over.signature (first-over.spec 𝓤 H (𝓖 .A) (𝓜 .mem) (𝓡 .run))) 𝓜 𝓡 code.env first-over-def.name first-over-def.routine code.calls-aig-records·records·first-over (first-over-meets.met 𝓤 H 𝓜 𝓖 𝓡))
-    (cited 𝓤 H (tripleOf 𝓤 H (𝓖 .A) judge.signature (judge.spec 𝓤 H (𝓖 .A) (𝓜 .mem) (𝓡 .run))) 𝓜 𝓡 code.env judge-def.name judge-def.routine code.calls-aig-records·checks·judge (judge-meets.met 𝓤 H 𝓜 𝓖 𝓡))
+    (cited 𝓤 H (tripleOf 𝓤 H (𝓖 .A) judge.signature (judge.spec 𝓤 H (𝓖 .A) (𝓜 .mem) (𝓡 .run))) 𝓜 𝓡 code.env judge-def.name judge-def.routine code.calls-aig-records·verdict·judge (judge-meets.met 𝓤 H 𝓜 𝓖 𝓡))
     (cited 𝓤 H (tripleOf 𝓤 H (𝓖 .A) flatten.signature (flatten.spec 𝓤 H (𝓖 .A) (𝓜 .mem) (𝓡 .run))) 𝓜 𝓡 code.env flatten-def.name flatten-def.routine code.calls-aig-records·records·flatten (flatten-meets.met 𝓤 H 𝓜 𝓖 𝓡))
     (cited 𝓤 H (tripleOf 𝓤 H (𝓖 .A) finish.signature (finish.spec 𝓤 H (𝓖 .A) (𝓜 .mem) (𝓡 .run))) 𝓜 𝓡 code.env finish-def.name finish-def.routine code.calls-aig-records·finish (finish-meets.met 𝓤 H 𝓜 𝓖 𝓡)))

@@ -54,13 +54,13 @@ use Rattle.lit.proofs.Var.Laws as T′
 use Rattle.aig_records.specs.Records.{noGate}
 use Rattle.aig_records.specs.Checks.{orElse, overIn}
 use Rattle.aig_records.specs.declared.GateRecord.{GateRecord}
-use Rattle.aig_records.specs.declared.checks.Found.{Found}
+use Rattle.checks.specs.declared.Found.{Found}
 use Rattle.aig_records.proofs.Overs.{over-more, over-all}
 use Rattle.aig_records.proofs.Turns.{after-one}
 use Rattle.aig_records.proofs.GateRecord as G
 use Rattle.aig_records.proofs.GateRecord.Laws as G′
-use Rattle.aig_records.proofs.checks.Found as F
-use Rattle.aig_records.proofs.checks.Found.Laws as F′
+use Rattle.checks.proofs.Found as F
+use Rattle.checks.proofs.Found.Laws as F′
 use Rattle.aig_records.proofs.records.or_over as or-over
 use Rattle.aig_records.proofs.records.or_over.Symbol as or-over-def
 use Rattle.aig_records.proofs.records.or_over.Met as or-over-meets

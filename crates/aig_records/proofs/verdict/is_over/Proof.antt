@@ -1,7 +1,7 @@
 -- `checks::is_over` meets its contract: a code is over 2V + 1 exactly where its half is over V. Assumes nothing.
 use borrow.Author.Needs.{needs}
-use Rattle.aig_records.proofs.checks.is_over.Statement.{statement}
-use Rattle.aig_records.proofs.checks.is_over.Tie as tie
+use Rattle.aig_records.proofs.verdict.is_over.Statement.{statement}
+use Rattle.aig_records.proofs.verdict.is_over.Tie as tie
 use mathlib.Core.Path.{ap, _∙_}
 use Rattle.lit.specs.declared.Var.{Var}
 use Rattle.aig_records.proofs.Overs.{over-half}

@@ -1,6 +1,6 @@
 -- `checks::too_big` meets its contract: each test decides one part of the definition's disjunction. Assumes nothing.
-use Rattle.aig_records.proofs.checks.too_big.Statement.{statement}
-use Rattle.aig_records.proofs.checks.too_big.Tie as tie
+use Rattle.aig_records.proofs.verdict.too_big.Statement.{statement}
+use Rattle.aig_records.proofs.verdict.too_big.Tie as tie
 use native.Mathlib.Omega.{arith}
 use Rattle.aig_records.proofs.Sizes.{big-top, big-inputs, big-states, big-gates, big-roots}
 

@@ -1,7 +1,7 @@
 -- `checks::is_short` meets its contract: each test decides one part of the definition's disjunction. Assumes nothing.
 use borrow.Author.Needs.{needs}
-use Rattle.aig_records.proofs.checks.is_short.Statement.{statement}
-use Rattle.aig_records.proofs.checks.is_short.Tie as tie
+use Rattle.aig_records.proofs.verdict.is_short.Statement.{statement}
+use Rattle.aig_records.proofs.verdict.is_short.Tie as tie
 use native.Mathlib.Omega.{arith}
 use Rattle.aig_records.proofs.Sizes.{short-map, short-nexts, short-roots, short-gates, short-scratch, short-flat}
 

@@ -1,27 +1,16 @@
 // What is asked before a record is copied: checks 1 to 4 in their order, of the lists and of what was found in the records.
 ghost use mathlib.Core.Path.{_≡_};
-ghost use lib.ListN.{length};
-ghost use Rattle.circuit.specs.Circuit.{latchCodes};
-ghost use Rattle.circuit.specs.Outcome.{total};
-ghost use Rattle.aig_records.specs.Checks.{overLimit, unequal, lacks, Small, Counted, over, orElse, firstIn, overAll, refusing, checkedOf};
+ghost use Rattle.aig_records.specs.Checks.{overLimit, unequal, lacks, Small, over, orElse, overAll, refusing, checkedOf};
+use checks::Check;
+use checks::Found;
 use circuit::CircuitRecord;
 use circuit::Refusal;
+use lent::words::wide;
 use lit::Lit;
 use lit::Var;
 
 // The largest V, I, L, G and R that are taken.
 const LIMIT: usize = 1048575;
-
-// The first literal of a list that a check does not let by.
-pub enum Found {
-    Literal(Lit),
-    Nothing,
-}
-
-pub enum Check {
-    Passed,
-    Failed(Refusal),
-}
 
 // What the checks say, and how many records are laid flat: none after a refusal.
 pub struct Checked {
@@ -57,23 +46,11 @@ fn too_big(top: usize, inputs: usize, states: usize, gates: usize, roots: usize)
     LIMIT < roots
 }
 
-fn wide(word: u32) -> usize
-    ensures { λ r. ⌜ Counted word r ⌝ }
-{
-    word as usize
-}
-
-fn sum(counts: [u32; 5]) -> usize
-    ensures { λ r. ⌜ r ≡ total counts ⌝ }
-{
-    wide(counts[0]) + (wide(counts[1]) + (wide(counts[2]) + (wide(counts[3]) + wide(counts[4]))))
-}
-
 fn is_unequal(circuit: CircuitRecord, states: usize, nexts: usize, roots: usize) -> bool
     ensures { λ r. ⌜ r ≡ unequal (circuit .counts) states nexts roots ⌝ }
 {
     let counts = circuit.counts;
-    if sum(counts) != roots {
+    if checks::sum(counts) != roots {
         return true;
     }
     states != nexts
@@ -118,40 +95,6 @@ pub fn is_over(top: Var, lit: Lit) -> bool
     top.index() < lit.var().index()
 }
 
-fn over_in(top: Var, codes: &[u32]) -> Found
-    ensures { λ r. ⌜ r ≡ firstIn (top .0) (now (codes .entry)) ⌝ }
-{
-    let mut i = 0;
-    while i < codes.len() {
-        let lit = Lit::from_code(codes[i]);
-        if is_over(top, lit) {
-            return Found::Literal(lit);
-        }
-        i += 1;
-    }
-    Found::Nothing
-}
-
-// The same of latches, each by its state and then its next literal.
-fn over_in_latches(top: Var, states: &[u32], nexts: &[u32]) -> Found
-    requires { ⌜ length (now states) ≡ length (now nexts) ⌝ }
-    ensures { λ r. ⌜ r ≡ firstIn (top .0) (latchCodes (now (states .entry)) (now (nexts .entry))) ⌝ }
-{
-    let mut i = 0;
-    while i < states.len() {
-        let state = Lit::from_code(states[i]);
-        if is_over(top, state) {
-            return Found::Literal(state);
-        }
-        let next = Lit::from_code(nexts[i]);
-        if is_over(top, next) {
-            return Found::Literal(next);
-        }
-        i += 1;
-    }
-    Found::Nothing
-}
-
 // The first literal over 2V + 1 where `gates` was found in the records.
 fn over_all(
     top: Var,
@@ -161,13 +104,13 @@ fn over_all(
     nexts: &[u32],
     roots: &[u32],
 ) -> Found
-    requires { ⌜ length (now states) ≡ length (now nexts) ⌝ }
     ensures { λ r. ⌜ r ≡ overAll (top .0) (now (inputs .entry)) gates (now (states .entry)) (now (nexts .entry)) (now (roots .entry)) ⌝ }
 {
-    let in_roots = over_in(top, roots);
-    let in_latches = over_in_latches(top, states, nexts);
+    let bound = 2 * wide(top.index()) + 1;
+    let in_roots = checks::over_in(roots, bound);
+    let in_latches = checks::over_in_latches(states, nexts, bound);
     let after = or_else(gates, or_else(in_latches, in_roots));
-    or_else(over_in(top, inputs), after)
+    or_else(checks::over_in(inputs, bound), after)
 }
 
 fn refused(why: Refusal) -> Checked

@@ -1,7 +1,7 @@
 -- `checks::or_else` meets its contract: each arm is a case of the definition. Assumes nothing.
 use borrow.Author.Needs.{needs}
-use Rattle.aig_records.proofs.checks.or_else.Statement.{statement}
-use Rattle.aig_records.proofs.checks.or_else.Tie as tie
+use Rattle.aig_records.proofs.verdict.or_else.Statement.{statement}
+use Rattle.aig_records.proofs.verdict.or_else.Tie as tie
 
 enum-known-before : tie.Need-enum-known-before
 enum-known-before c = search needs

@@ -1,7 +1,7 @@
 -- `checks::is_unequal` meets its contract: each test decides one part of the definition's disjunction. Assumes nothing.
 use borrow.Author.Needs.{needs}
-use Rattle.aig_records.proofs.checks.is_unequal.Statement.{statement}
-use Rattle.aig_records.proofs.checks.is_unequal.Tie as tie
+use Rattle.aig_records.proofs.verdict.is_unequal.Statement.{statement}
+use Rattle.aig_records.proofs.verdict.is_unequal.Tie as tie
 use Rattle.aig_records.proofs.Sizes.{shape-counts, shape-latches}
 
 sum-requires : tie.Need-sum-requires

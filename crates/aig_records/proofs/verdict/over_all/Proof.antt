@@ -1,0 +1,67 @@
+-- `verdict::over_all` meets its contract: what its calls answer, put together. Assumes nothing.
+use borrow.Author.Needs.{needs}
+use Rattle.aig_records.proofs.verdict.over_all.Statement.{statement}
+use Rattle.aig_records.proofs.verdict.over_all.Tie as tie
+use Prim.Native.Nat.{ℕ}
+use mathlib.Core.Path.{ap₂, ap, _∙_}
+use denote.Ref.{now}
+use Rattle.circuit.specs.Circuit.{latchCodes}
+use Rattle.aig_records.specs.Checks.{orElse, firstIn}
+
+index-requires : tie.Need-index-requires
+index-requires c κs = search needs
+
+wide-requires : tie.Need-wide-requires
+wide-requires c κs = search needs
+
+mul-bound : tie.Need-mul-bound
+mul-bound c = search needs
+
+add-bound : tie.Need-add-bound
+add-bound c = search needs
+
+over-in-requires : tie.Need-over-in-requires
+over-in-requires c κs = search needs
+
+over-in-latches-requires : tie.Need-over-in-latches-requires
+over-in-latches-requires c κs = search needs
+
+or-else-requires : tie.Need-or-else-requires
+or-else-requires c κs = search needs
+
+or-else-requires-2 : tie.Need-or-else-requires-2
+or-else-requires-2 c κs = search needs
+
+over-in-requires-2 : tie.Need-over-in-requires-2
+over-in-requires-2 c κs = search needs
+
+or-else-requires-3 : tie.Need-or-else-requires-3
+or-else-requires-3 c κs = search needs
+
+returns : tie.Need-returns
+returns c =
+    let a = c .before .before .before .before .before .before .before .before .before .before .before .before .args in
+    let e = c .before .before .before .before .before .before .wide .ensures ∙ c .before .before .before .before .before .before .before .index .ensures in
+    c .or-else3 .ensures
+    ∙ ap₂ orElse (c .before .over-in2 .ensures ∙ ap (λ (t : ℕ). firstIn t (now (a .inputs))) e)
+    (c .before .before .or-else2 .ensures
+    ∙ ap (orElse (a .gates))
+    (c .before .before .before .or-else .ensures
+    ∙ ap₂ orElse (c .before .before .before .before .over-in-latches .ensures ∙ ap (λ (t : ℕ). firstIn t (latchCodes (now (a .states)) (now (a .nexts)))) e)
+    (c .before .before .before .before .before .over-in .ensures ∙ ap (λ (t : ℕ). firstIn t (now (a .roots))) e)))
+
+pub over-all-spec : {M : Type 1} → statement M
+over-all-spec =
+    tie.close
+    (tie.spec
+    index-requires
+    wide-requires
+    mul-bound
+    add-bound
+    over-in-requires
+    over-in-latches-requires
+    or-else-requires
+    or-else-requires-2
+    over-in-requires-2
+    or-else-requires-3
+    returns)
