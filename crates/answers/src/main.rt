@@ -2,14 +2,24 @@
 // files `stdin` and `stdout` beside `src` are the questions and the original's answers; docs/RECORDED.md says how they were made.
 mod fields;
 mod say;
+mod sheets;
 mod tokens;
 
+ghost use mathlib.Core.Path.{_≡_};
+ghost use lib.ListN.{length};
 use libc::STDIN_FILENO;
 
+// Room for the questions.
+fn questions_room() -> [u8; 1048576]
+    ensures { λ r. ⌜ 1048576 ≡ length r ⌝ }
+{
+    [0; 1048576]
+}
+
 fn main() {
-    let mut buffer = [0u8; 262144];
-    let n = io::read_full(STDIN_FILENO, &mut buffer);
-    lines(&buffer[..n]);
+    let mut questions = questions_room();
+    let n = io::read_full(STDIN_FILENO, &mut questions);
+    lines(&questions[..n]);
 }
 
 // Each line but its newline, in turn.
@@ -17,7 +27,16 @@ fn lines(s: &[u8]) {
     let mut at = 0;
     while at < s.len() {
         let end = fields::line_end(s, at);
-        tokens::answer(&s[at..end]);
+        answer(&s[at..end]);
         at = end + 1;
+    }
+}
+
+// The second letter tells a sheet from the tokens.
+fn answer(line: &[u8]) {
+    if fields::byte(line, 1) == b'h' {
+        sheets::answer(line);
+    } else {
+        tokens::answer(line);
     }
 }

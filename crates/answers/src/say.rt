@@ -1,4 +1,4 @@
-// Answers on standard output: `V value used`, `P first second used`, `R number place`.
+// Answers on standard output: `V value used`, `P first second used`, `R number place`; and any text.
 use libc::STDOUT_FILENO;
 use token::PairToken;
 use token::Reason;
@@ -48,6 +48,6 @@ fn number(n: u64) {
     io::print_decimal(STDOUT_FILENO, n);
 }
 
-fn text(s: &[u8]) {
+pub fn text(s: &[u8]) {
     io::write_all(STDOUT_FILENO, s);
 }
