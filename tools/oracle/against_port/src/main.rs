@@ -3,8 +3,12 @@
 //!     against_port small                         every circuit of up to two gates: all codes, roots, flags
 //!     against_port random SEED COUNT MAXGATES    random circuits of every kind, lent lists of every length near the needed one
 //!     against_port large                         the limits and one over, a long chain, a full stack, a wide fan-out
+//!     against_port file FILE FOLDER SEED         an AIGER file in three orders, with all flags; writes FOLDER/ORDER-FLAGS.aig as the port ordered it
+//!     against_port flip FILE WHICH TO            the file with one literal flipped: of a next state, a root or a gate (WHICH)
 //!
 //! Prints how many of each answer there were. At the first difference it prints the smallest circuit it can shrink it to and ends with 1.
+mod aiger;
+mod file;
 mod outcome;
 mod shrink;
 
@@ -57,8 +61,10 @@ fn main() {
         ["small"] => small(&mut tally),
         ["random", s, c, g] => random(&mut tally, Random(number(s)), number(c), number(g)),
         ["large"] => large(&mut tally),
+        ["file", path, folder, seed] => return file::compare(path, folder, number(seed)),
+        ["flip", path, which, to] => return file::flip(path, which, to),
         _ => {
-            eprintln!("usage: against_port small | random SEED COUNT MAXGATES | large");
+            eprintln!("usage: against_port small | random SEED COUNT MAXGATES | large | file FILE FOLDER SEED | flip FILE WHICH TO");
             exit(2)
         }
     }

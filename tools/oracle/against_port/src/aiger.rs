@@ -1,0 +1,157 @@
+//! AIGER files, text and binary: a reader and a writer of our own, after the papers. Symbols and comments are left out. On what is no AIGER
+//! file it panics.
+use flussab_aiger::{aig::Aig, ascii, binary};
+use judge::circuit::{put, Circuit};
+
+/// A circuit, and what renumbering leaves to its caller.
+pub struct File {
+    pub circuit: Circuit,
+    /// Each latch's first value, or none where it may be either.
+    pub resets: Vec<Option<bool>>,
+    /// How many literals each justice property has.
+    pub justice: Vec<u64>,
+}
+
+impl File {
+    /// All that was read, as numbers.
+    pub fn numbers(&self) -> Vec<u64> {
+        let resets = self.resets.iter().map(|reset| reset.map_or(2, u64::from));
+        let mut numbers = self.circuit.numbers();
+        numbers.extend(resets.chain(self.justice.iter().copied()));
+        numbers
+    }
+}
+
+/// A place in a file.
+struct Reader<'a> {
+    bytes: &'a [u8],
+    place: usize,
+}
+
+impl Reader<'_> {
+    /// The numbers on a line.
+    fn line(&mut self) -> Vec<u64> {
+        let rest = &self.bytes[self.place..];
+        let length = rest.iter().position(|&byte| byte == b'\n').expect("a whole line");
+        self.place += length + 1;
+        let text = std::str::from_utf8(&rest[..length]).expect("a line of text");
+        text.split(' ').map(|word| word.parse().expect("a number")).collect()
+    }
+
+    /// Lines with a number each.
+    fn column(&mut self, count: u64) -> Vec<u64> {
+        let one = |line: Vec<u64>| <[u64; 1]>::try_from(line).expect("one number on a line")[0];
+        (0..count).map(|_| one(self.line())).collect()
+    }
+
+    /// A latch with the state given, or named on its line, and its reset.
+    fn latch(&mut self, given: Option<u64>) -> ([u64; 2], Option<bool>) {
+        let mut line = self.line();
+        line.splice(0..0, given);
+        let reset = match line[2..] {
+            [] | [0] => Some(false),
+            [1] => Some(true),
+            [own] if own == line[0] => None,
+            _ => panic!("a latch's reset is 0, 1 or its state: {line:?}"),
+        };
+        ([line[0], line[1]], reset)
+    }
+
+    /// A number in groups of seven bits, low first.
+    fn groups(&mut self) -> u64 {
+        let byte = self.bytes[self.place] as u64;
+        self.place += 1;
+        byte % 128 + if byte < 128 { 0 } else { 128 * self.groups() }
+    }
+
+    /// A gate of the binary form, by two deltas.
+    fn deltas(&mut self, output: u64) -> [u64; 3] {
+        let first = output.checked_sub(self.groups()).expect("a delta within its reference");
+        let second = first.checked_sub(self.groups()).expect("a delta within its reference");
+        [output, first, second]
+    }
+}
+
+/// Reads a file, and holds the lists to those that the crate's own parsers read.
+pub fn read(bytes: &[u8]) -> File {
+    let binary = bytes.starts_with(b"aig ");
+    assert!(binary || bytes.starts_with(b"aag "), "the file begins with aig or aag");
+    let mut reader = Reader { bytes, place: 4 };
+    let mut header = reader.line();
+    assert!((5..=9).contains(&header.len()), "a header of five to nine numbers");
+    header.resize(9, 0);
+    let [largest, i, l, o, g, b, c, j, f] = header[..] else { unreachable!() };
+
+    let inputs = if binary { (1..=i).map(|v| 2 * v).collect() } else { reader.column(i) };
+    let state = |k| binary.then_some(2 * (i + 1 + k));
+    let (latches, resets) = (0..l).map(|k| reader.latch(state(k))).unzip();
+    let [outputs, bad, constraints] = [o, b, c].map(|count| reader.column(count));
+    let justice = reader.column(j);
+    let literals = reader.column(justice.iter().sum());
+    let fairness = reader.column(f);
+    let gate = |k| match binary {
+        true => reader.deltas(2 * (i + l + 1 + k)),
+        false => reader.line().try_into().expect("three numbers of a gate"),
+    };
+    let gates = (0..g).map(gate).collect();
+    let roots = [outputs, bad, constraints, fairness, literals];
+    let circuit = Circuit { largest, inputs, gates, latches, roots, flags: 0 };
+    let file = File { circuit, resets, justice };
+    assert!(file.numbers() == read_by_crate(&bytes[..reader.place], binary).numbers(), "the crate reads something else");
+    file
+}
+
+/// The crate's reading, over the stand-in for flussab.
+fn read_by_crate(bytes: &[u8], binary: bool) -> File {
+    let aig: Aig<u32> = match binary {
+        true => binary::Parser::from_read(bytes, Default::default()).and_then(|parser| parser.parse()).map(Aig::from),
+        false => ascii::Parser::from_read(bytes, Default::default()).and_then(|parser| parser.parse()),
+    }
+    .expect("the crate reads the file");
+    let codes = |list: &[u32]| list.iter().map(|&code| code as u64).collect::<Vec<u64>>();
+    let circuit = Circuit {
+        largest: aig.max_var_index as u64,
+        inputs: codes(&aig.inputs),
+        gates: aig.and_gates.iter().map(|gate| [gate.output, gate.inputs[0], gate.inputs[1]].map(u64::from)).collect(),
+        latches: aig.latches.iter().map(|latch| [latch.state, latch.next_state].map(u64::from)).collect(),
+        roots: [
+            codes(&aig.outputs),
+            codes(&aig.bad_state_properties),
+            codes(&aig.invariant_constraints),
+            codes(&aig.fairness_constraints),
+            codes(&aig.justice_properties.concat()),
+        ],
+        flags: 0,
+    };
+    File {
+        circuit,
+        resets: aig.latches.iter().map(|latch| latch.initialization).collect(),
+        justice: aig.justice_properties.iter().map(|list| list.len() as u64).collect(),
+    }
+}
+
+/// The binary form of a circuit whose variables are numbered in order: inputs, latches, gates, each gate above its inputs.
+pub fn write(file: &File) -> Vec<u8> {
+    let Circuit { largest, inputs, gates, latches, roots, .. } = &file.circuit;
+    let states = latches.iter().map(|latch| latch[0]);
+    let defined = inputs.iter().copied().chain(states).chain(gates.iter().map(|gate| gate[0]));
+    assert!(defined.eq((1..=*largest).map(|v| 2 * v)), "variables in order");
+    let [outputs, bad, constraints, fairness, justice] = roots;
+    let counts = [inputs.len(), latches.len(), outputs.len(), gates.len(), bad.len(), constraints.len(), file.justice.len(), fairness.len()];
+    let mut text = format!("aig {largest}");
+    text.extend(counts.map(|count| format!(" {count}")));
+    text.push('\n');
+    for ([state, next], reset) in latches.iter().zip(&file.resets) {
+        text += &format!("{next} {}\n", reset.map_or(*state, u64::from));
+    }
+    for code in [outputs, bad, constraints, &file.justice, justice, fairness].into_iter().flatten() {
+        text += &format!("{code}\n");
+    }
+    let mut bytes = text.into_bytes();
+    for &[output, first, second] in gates {
+        assert!(output > first && first >= second, "a gate above its inputs, the larger one first");
+        put(&mut bytes, output - first, 1);
+        put(&mut bytes, first - second, 1);
+    }
+    bytes
+}

@@ -1,0 +1,112 @@
+//! A real file: renumbered by the port and by the crate as it stands and renamed at random, with all flags, and written again as the port ordered it.
+use crate::{
+    aiger::{self, File},
+    outcome::{by_crate, by_port, Lists, Outcome},
+};
+use judge::{circuit::Circuit, random::Random};
+use std::{fs, path::Path, process::exit};
+
+const LIMIT: u64 = 1_048_575;
+
+/// Compares both outcomes of a file in three orders with every choice of flags, and writes FOLDER/ORDER-FLAGS.aig. Ends the program at a difference.
+pub fn compare(path: &str, folder: &str, seed: u64) {
+    let file = aiger::read(&fs::read(path).expect("the file can be read"));
+    let Circuit { largest, inputs, gates, latches, roots, .. } = &file.circuit;
+    let counts = roots.each_ref().map(Vec::len);
+    let resets = [Some(false), Some(true), None].map(|value| file.resets.iter().filter(|&&reset| reset == value).count());
+    println!("V={largest}, {} inputs, {} latches, {} gates, roots {counts:?}, resets {resets:?}", inputs.len(), latches.len(), gates.len());
+    let mut random = Random(seed);
+    let shuffled = renamed(&file.circuit, &mut random, false);
+    let signs = renamed(&file.circuit, &mut random, true);
+    let mut made = vec![];
+    for (order, circuit) in [("given", &file.circuit), ("shuffled", &shuffled), ("signs", &signs)] {
+        let counts = (0..8).map(|flags| one(&file, circuit, order, flags, folder).to_string());
+        made.push(counts.collect::<Vec<_>>().join(" "));
+    }
+    made.dedup();
+    println!("  24 outcomes alike; gates made with the flags 0 to 7: {}", made.join("; "));
+}
+
+/// One outcome, compared and written: the number of gates made.
+fn one(file: &File, circuit: &Circuit, order: &str, flags: u64, folder: &str) -> u32 {
+    let circuit = Circuit { flags, ..circuit.clone() };
+    let lists = Lists::lent(&circuit, [1; 5]);
+    let (port, judge) = (by_port(&circuit, lists.clone()), by_crate(&circuit, lists));
+    if port != judge {
+        println!("DIFFERS: {order}, flags {flags}: {}", difference(port, judge));
+        exit(1);
+    }
+    assert_eq!(port.number, 0, "a file's circuit can be ordered");
+    let ordered = File { circuit: ordered(&circuit, &port), resets: file.resets.clone(), justice: file.justice.clone() };
+    let path = Path::new(folder).join(format!("{order}-{flags}.aig"));
+    fs::write(path, aiger::write(&ordered)).expect("the file can be written");
+    port.words[1]
+}
+
+/// Where two outcomes differ first: the answers, or a word of a list. A circuit of a file is too large to be shrunk.
+fn difference(port: Outcome, judge: Outcome) -> String {
+    if (port.number, port.words) != (judge.number, judge.words) {
+        return format!("the port answers {} {:?}, the crate {} {:?}", port.number, port.words, judge.number, judge.words);
+    }
+    let lists = |Lists { map, next_images, root_images, gates_out, scratch }| [map, next_images, root_images, gates_out, scratch];
+    let names = ["map", "next_images", "root_images", "gates_out", "scratch"];
+    for ((one, other), name) in lists(port.lists).into_iter().zip(lists(judge.lists)).zip(names) {
+        if let Some(word) = (0..one.len()).find(|&word| one[word] != other[word]) {
+            return format!("{name}[{word}]: the port {}, the crate {}", one[word], other[word]);
+        }
+    }
+    unreachable!("equal outcomes")
+}
+
+/// The circuit that an outcome of success describes.
+fn ordered(circuit: &Circuit, outcome: &Outcome) -> Circuit {
+    let [_, made, largest] = outcome.words.map(u64::from);
+    let lists = &outcome.lists;
+    let (i, l) = (circuit.inputs.len() as u64, circuit.latches.len() as u64);
+    let mut images = lists.root_images.iter().map(|&image| image as u64);
+    Circuit {
+        largest,
+        inputs: (1..=i).map(|v| 2 * v).collect(),
+        latches: (i + 1..=i + l).zip(&lists.next_images).map(|(v, &next)| [2 * v, next as u64]).collect(),
+        gates: (i + l + 1..=i + l + made).zip(lists.gates_out.chunks(2)).map(|(v, pair)| [2 * v, pair[0] as u64, pair[1] as u64]).collect(),
+        roots: circuit.roots.each_ref().map(|list| images.by_ref().take(list.len()).collect()),
+        flags: 0,
+    }
+}
+
+/// The same circuit with its variables renamed at random, some names unused, its gates shuffled and their inputs exchanged at random; with
+/// `signs`, half of the variables are negated too, so that their definitions are odd.
+fn renamed(circuit: &Circuit, random: &mut Random, signs: bool) -> Circuit {
+    let largest = (circuit.largest + circuit.largest / 8).min(LIMIT);
+    let mut names: Vec<u64> = (1..=largest).map(|v| 2 * v).collect();
+    random.shuffle(&mut names);
+    if signs {
+        names.iter_mut().for_each(|name| *name += random.bit());
+    }
+    names.insert(0, 0);
+    let mut renamed = Circuit { largest, ..circuit.clone() };
+    for code in renamed.codes_mut() {
+        *code = names[*code as usize / 2] ^ *code % 2;
+    }
+    random.shuffle(&mut renamed.gates);
+    for gate in &mut renamed.gates {
+        if random.bit() == 1 {
+            gate.swap(1, 2);
+        }
+    }
+    renamed
+}
+
+/// Writes an ordered file again with one literal flipped: the first latch's next state, the last root, or the last gate's second input.
+pub fn flip(path: &str, which: &str, to: &str) {
+    let mut file = aiger::read(&fs::read(path).expect("the file can be read"));
+    let circuit = &mut file.circuit;
+    let literal = match which {
+        "next" => circuit.latches.first_mut().map(|latch| &mut latch[1]),
+        "root" => circuit.roots.iter_mut().flatten().last(),
+        "gate" => circuit.gates.last_mut().map(|gate| &mut gate[2]),
+        _ => None,
+    };
+    *literal.expect("a next state, a root or a gate") ^= 1;
+    fs::write(to, aiger::write(&file)).expect("the file can be written");
+}
