@@ -1,16 +1,37 @@
 -- What the walks are given and what they leave. Assumes nothing.
 use Prim.Native.Nat.{ℕ, _+_, _-_, _*_}
 use mathlib.Core.Path.{_≡_}
-use mathlib.Core.List.{List, _++_}
+use mathlib.Core.Option.{none}
+use mathlib.Core.List.{List, [], _∷_, _++_}
+use mathlib.Core.List as L
 use lib.ListN.{length, take, drop}
+use Rattle.lit.specs.Code.{var}
 use Rattle.circuit.specs.Graph.{DefinedOnce}
 use Rattle.circuit.specs.Walk.{Out, reached, stopped}
-use Rattle.circuit.specs.Circuit.{Circuit, graph, start}
+use Rattle.circuit.specs.Circuit.{Circuit, graph, codes, firstOver, firstAgain, definitions, start}
 use Rattle.circuit.specs.Outcome.{Lent, circuitOf, pairWords, zeros, mapWords, scratchWords}
 use Rattle.circuit.specs.Claims.{Within, Agrees, InBounds}
 use Rattle.aig.specs.Table.{Tabled}
 use Rattle.aig.specs.declared.walk.Walked.{Walked}
 use Rattle.aig.specs.declared.walk.Walked.the-variants.{Reached, Stopped}
+
+-- the circuit has passed checks 1, 2 and 4, and the lists are as long as they must be
+pub record WalkRoom (l : Lent) (map out scratch : List ℕ) : Type 0 where
+  pub within : Within (circuitOf l)
+  pub agrees : Agrees l
+  pub bounds : InBounds (circuitOf l)
+  pub four : firstOver (2 * circuitOf l .top + 1) (codes (circuitOf l)) ≡ none
+  pub mapLong : length map ≡ mapWords (circuitOf l)
+  pub outLong : length out ≡ 2 * length (circuitOf l .gates)
+  pub scratchLong : length scratch ≡ scratchWords (circuitOf l)
+
+-- checks 5 and 6 are passed too, and the front of the scratch is the table of definitions, with zeros behind it
+pub record WalkTabled (l : Lent) (map out scratch : List ℕ) : Type 0 where
+  pub room : WalkRoom l map out scratch
+  pub five : firstAgain (0 ∷ []) (definitions (circuitOf l)) ≡ none
+  pub six : firstAgain (0 ∷ L.map var (definitions (circuitOf l))) (l .states) ≡ none
+  pub table : Tabled (circuitOf l .gates) (take (mapWords (circuitOf l)) scratch)
+  pub clean : drop (mapWords (circuitOf l)) scratch ≡ zeros (2 * mapWords (circuitOf l) + 3 * length (circuitOf l .gates))
 
 -- the circuit has passed checks 1 to 6, and the lists are as the walks of its literals find them
 pub record WalkReady (l : Lent) (map out scratch : List ℕ) : Type 0 where

@@ -13,10 +13,11 @@ mod walk;
 mod walks;
 
 ghost use mathlib.Core.Path.{_≡_};
+ghost use Prim.Native.Nat.{_+_, _^_, _<_};
 ghost use Rattle.circuit.specs.Map.{imageOf};
 ghost use Rattle.circuit.specs.Outcome.{lentOf, outcomeOf, outcome};
 ghost use Rattle.checks.specs.Lending.{bare};
-ghost use Rattle.aig.specs.Whole.{concluded, Exact, Tables};
+ghost use Rattle.aig.specs.Whole.{concluded, madeWith, Exact};
 ghost use Rattle.circuit.specs.Claims.{Passes};
 use checks::Check;
 use circuit::Answer;
@@ -42,52 +43,16 @@ pub fn lookup(map: &[u32], top: Var, lit: Lit) -> Image
     map::image(map, lit)
 }
 
-// What is walked, where the table of definitions stands in the scratch.
-fn walk_tabled(
-    circuit: CircuitRecord,
-    inputs: &[u32],
-    states: &[u32],
-    nexts: &[u32],
-    gates: &[u32],
-    roots: &[u32],
-    map: &mut [u32],
-    next_images: &mut [u32],
-    root_images: &mut [u32],
-    gates_out: &mut [u32],
-    scratch: &mut [u32],
-) -> Answer
-    requires { ⌜ Tables (lentOf circuit (now inputs) (now states) (now nexts) (now gates) (now roots) (now map) (now «next_images») (now «root_images») (now «gates_out») (now scratch)) ⌝ }
-    ensures { λ r. ⌜ outcomeOf r (now (map .exit)) (now («next_images» .exit)) (now («root_images» .exit)) (now («gates_out» .exit)) (now (scratch .exit)) ≡ concluded (bare circuit (now (inputs .entry)) (now (states .entry)) (now (nexts .entry)) (now (gates .entry)) (now (roots .entry))) ⌝ }
+// The answer where so many gates were made.
+fn renumbered(sources: usize, made: usize) -> Answer
+    requires { ⌜ sources + made < 2 ^ 32 ⌝ }
+    ensures { λ r. ⌜ r ≡ madeWith sources made ⌝ }
 {
-    words::fill(gates_out, 0);
-    images::begin(map, inputs, states);
-    let end = walks::walk_all(
-        circuit,
-        inputs,
-        states,
-        nexts,
-        gates,
-        roots,
-        map,
-        gates_out,
-        scratch,
-    );
-    match end {
-        Walked::Reached(made) => {
-            images::images(map, nexts, next_images);
-            images::images(map, roots, root_images);
-            words::fill(scratch, 0);
-            let top = fit::word(inputs.len() + states.len() + made);
-            Answer::Renumbered(Summary {
-                made: fit::word(made),
-                top: Var::from_index(top),
-            })
-        }
-        Walked::Stopped(why) => {
-            clearing::clear(map, next_images, root_images, gates_out, scratch);
-            Answer::Refused(why)
-        }
-    }
+    let top = fit::word(sources + made);
+    Answer::Renumbered(Summary {
+        made: fit::word(made),
+        top: Var::from_index(top),
+    })
 }
 
 // Checks 5 and 6 and the walks, where every lent list is exactly as long as it must be.
@@ -107,24 +72,25 @@ fn renumber_exact(
     requires { ⌜ Exact (lentOf circuit (now inputs) (now states) (now nexts) (now gates) (now roots) (now map) (now «next_images») (now «root_images») (now «gates_out») (now scratch)) ⌝ }
     ensures { λ r. ⌜ outcomeOf r (now (map .exit)) (now («next_images» .exit)) (now («root_images» .exit)) (now («gates_out» .exit)) (now (scratch .exit)) ≡ concluded (bare circuit (now (inputs .entry)) (now (states .entry)) (now (nexts .entry)) (now (gates .entry)) (now (roots .entry))) ⌝ }
 {
-    words::fill(scratch, 0);
-    let n = map.len();
-    let check = defs::define_all(&mut scratch[..n], inputs, states, gates);
-    match check {
-        Check::Passed => walk_tabled(
-            circuit,
-            inputs,
-            states,
-            nexts,
-            gates,
-            roots,
-            map,
-            next_images,
-            root_images,
-            gates_out,
-            scratch,
-        ),
-        Check::Failed(why) => {
+    let end = walks::walk_all(
+        circuit,
+        inputs,
+        states,
+        nexts,
+        gates,
+        roots,
+        map,
+        gates_out,
+        scratch,
+    );
+    match end {
+        Walked::Reached(made) => {
+            images::images(map, nexts, next_images);
+            images::images(map, roots, root_images);
+            words::fill(scratch, 0);
+            renumbered(inputs.len() + states.len(), made)
+        }
+        Walked::Stopped(why) => {
             clearing::clear(map, next_images, root_images, gates_out, scratch);
             Answer::Refused(why)
         }

@@ -1,18 +1,21 @@
-// All walks of a circuit, in the words of its lists.
+// Checks 5 and 6 and all walks of a circuit, in the words of its lists.
 ghost use mathlib.Core.List.{_++_};
-ghost use Rattle.circuit.specs.Circuit.{net, start};
+ghost use Rattle.circuit.specs.Circuit.{net, renumber, start};
 ghost use Rattle.circuit.specs.Circuit as definitions;
 ghost use Rattle.circuit.specs.Walk.{walkAll};
 ghost use Rattle.checks.specs.Lending.{bare, circuitIn};
-ghost use Rattle.aig.specs.Walked.{WalkReady, WalkEnds};
+ghost use Rattle.aig.specs.Walked.{WalkRoom, WalkTabled, WalkEnds};
+use crate::defs;
+use crate::images;
 use crate::order;
 use crate::shape::Shape;
 use crate::walk::Walked;
+use checks::Check;
 use circuit::CircuitRecord;
-use lent::words::wide;
+use lent::words;
 
-// Gate outputs unless trimmed, next states, roots.
-pub fn walk_all(
+// The walks from the map at the start, where the table of definitions stands in the scratch: gate outputs unless trimmed, next states, roots.
+fn walk_tabled(
     circuit: CircuitRecord,
     inputs: &[u32],
     states: &[u32],
@@ -23,12 +26,14 @@ pub fn walk_all(
     gates_out: &mut [u32],
     scratch: &mut [u32],
 ) -> Walked
-    requires { ⌜ WalkReady (bare circuit (now inputs) (now states) (now nexts) (now gates) (now roots)) (now map) (now «gates_out») (now scratch) ⌝ }
+    requires { ⌜ WalkTabled (bare circuit (now inputs) (now states) (now nexts) (now gates) (now roots)) (now map) (now «gates_out») (now scratch) ⌝ }
     ensures { λ r. ⌜ WalkEnds (circuitIn circuit (now (inputs .entry)) (now (states .entry)) (now (nexts .entry)) (now (gates .entry)) (now (roots .entry))) (walkAll (net (circuitIn circuit (now (inputs .entry)) (now (states .entry)) (now (nexts .entry)) (now (gates .entry)) (now (roots .entry)))) (definitions.walked (circuitIn circuit (now (inputs .entry)) (now (states .entry)) (now (nexts .entry)) (now (gates .entry)) (now (roots .entry)))) (start (circuit .top .0) (now (inputs .entry) ++ now (states .entry)))) r (now (map .exit)) (now («gates_out» .exit)) ⌝ }
 {
-    let top = circuit.top;
+    let vars = map.len();
+    words::fill(gates_out, 0);
+    images::begin(map, inputs, states);
     let shape = Shape {
-        vars: wide(top.index()) + 1,
+        vars,
         gates: gates.len() / 3,
         sources: inputs.len() + states.len(),
         hash: circuit.hash,
@@ -44,4 +49,38 @@ pub fn walk_all(
         gates_out,
         scratch,
     )
+}
+
+// Checks 5 and 6, and the walks.
+pub fn walk_all(
+    circuit: CircuitRecord,
+    inputs: &[u32],
+    states: &[u32],
+    nexts: &[u32],
+    gates: &[u32],
+    roots: &[u32],
+    map: &mut [u32],
+    gates_out: &mut [u32],
+    scratch: &mut [u32],
+) -> Walked
+    requires { ⌜ WalkRoom (bare circuit (now inputs) (now states) (now nexts) (now gates) (now roots)) (now map) (now «gates_out») (now scratch) ⌝ }
+    ensures { λ r. ⌜ WalkEnds (circuitIn circuit (now (inputs .entry)) (now (states .entry)) (now (nexts .entry)) (now (gates .entry)) (now (roots .entry))) (renumber (circuitIn circuit (now (inputs .entry)) (now (states .entry)) (now (nexts .entry)) (now (gates .entry)) (now (roots .entry)))) r (now (map .exit)) (now («gates_out» .exit)) ⌝ }
+{
+    words::fill(scratch, 0);
+    let n = map.len();
+    let check = defs::define_all(&mut scratch[..n], inputs, states, gates);
+    match check {
+        Check::Passed => walk_tabled(
+            circuit,
+            inputs,
+            states,
+            nexts,
+            gates,
+            roots,
+            map,
+            gates_out,
+            scratch,
+        ),
+        Check::Failed(why) => Walked::Stopped(why),
+    }
 }

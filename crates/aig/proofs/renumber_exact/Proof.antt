@@ -1,30 +1,34 @@
--- `renumber_exact` meets its contract: the table says what checks 5 and 6 say (proofs/Tabling.antt). Assumes nothing.
+-- `renumber_exact` meets its contract: what the walks leave, with the images and a cleared scratch, is the outcome (proofs/Concluding.antt). Assumes nothing.
 use borrow.Author.Needs.{needs}
 use Rattle.aig.proofs.renumber_exact.Statement.{statement}
 use Rattle.aig.proofs.renumber_exact.Tie as tie
-use mathlib.Core.Path.{refl, sym}
-use Rattle.aig.proofs.Tabling.{within-scratch, front-long, definable-front, ready-tables, refuses, whole-long, clears}
+use native.Mathlib.Omega.{arith}
+use mathlib.Core.Path.{refl, _∙_}
+use Rattle.aig.proofs.Concluding.{sizes, walk-room, next-room, made-low, stops, finishes, clears}
+
+walk-all-requires : tie.Need-walk-all-requires
+walk-all-requires c κs = walk-room (c .before .before .before .before .before .before .before .before .before .before .before .before .before .pre)
+
+enum-known-end : tie.Need-enum-known-end
+enum-known-end c = search needs
+
+images-requires : tie.Need-images-requires
+images-requires c κs = next-room (c .before .before .before .before .before .before .before .before .before .before .before .before .before .before .before .before .before .before .before .before .before .before .before .before .before .pre)
+
+images-requires-2 : tie.Need-images-requires-2
+images-requires-2 c κs = c .before .before .before .before .before .before .before .before .before .before .before .before .before .before .before .before .before .before .before .before .before .before .before .before .before .before .before .before .before .before .pre .rootImages
 
 fill-requires : tie.Need-fill-requires
 fill-requires c κs = search needs
 
-slice-relend-prefix-define-all : tie.Need-slice-relend-prefix-define-all
-slice-relend-prefix-define-all c = within-scratch (c .before .before .before .before .before .before .before .before .before .before .before .before .before .before .pre) _ (c .before .before .fill .ensures)
+add-renumbered : tie.Need-add-renumbered
+add-renumbered c = omega (arith, sizes (c .before .before .before .before .before .before .before .before .before .before .before .before .before .before .before .before .before .before .before .before .before .before .before .before .before .before .before .before .before .before .before .before .before .before .before .before .before .pre))
 
-slice-aggregate-define-all : tie.Need-slice-aggregate-define-all
-slice-aggregate-define-all c = sym (front-long (c .before .before .before .before .before .before .before .before .before .before .before .before .before .before .before .pre) _ (c .before .before .before .fill .ensures))
+renumbered-requires : tie.Need-renumbered-requires
+renumbered-requires c κs = omega (arith, sizes (c .before .before .before .before .before .before .before .before .before .before .before .before .before .before .before .before .before .before .before .before .before .before .before .before .before .before .before .before .before .before .before .before .before .before .before .before .before .pre), made-low (c .before .before .before .before .before .before .before .before .before .before .before .before .before .before .before .before .before .before .before .before .before .before .before .before .before .before .before .before .before .before .before .before .before .before .before .before .before .pre) (c .before .before .before .before .before .before .before .before .before .before .before .before .before .before .before .before .before .before .before .before .before .before .before .walk-all .result) _ _ (c .before .before .before .before .before .before .before .before .before .before .before .before .before .before .before .before .before .before .before .before .before .before .before .walk-all .ensures) (c .before .before .before .before .before .before .before .before .before .before .before .before .before .before .before .end .given .0 .0) (c .before .before .before .before .before .before .before .before .before .before .before .before .before .before .before .end .given .1))
 
-define-all-requires : tie.Need-define-all-requires
-define-all-requires c κs = definable-front (c .before .before .before .before .before .before .before .before .before .before .before .before .before .before .before .pre) _ (c .before .before .before .fill .ensures)
-
-enum-told : tie.Need-enum-told
-enum-told c = search needs
-
-walk-tabled-requires : tie.Need-walk-tabled-requires
-walk-tabled-requires c κs = ready-tables (c .before .before .before .before .before .before .before .before .before .before .before .before .before .before .before .before .before .before .before .before .before .before .before .before .before .pre) _ (c .before .before .before .before .before .before .before .before .before .before .before .before .before .fill .ensures) _ _ (c .before .before .before .before .before .before .before .before .before .define-all .ensures) (c .before .before .before .before .before .before .before .before .before .define-all .kept .0) (c .before .before .before .before .before .enum-told .given .1)
-
-enum-known-check : tie.Need-enum-known-check
-enum-known-check c = search needs
+enum-known-end-2 : tie.Need-enum-known-end-2
+enum-known-end-2 c = search needs
 
 clear-requires : tie.Need-clear-requires
 clear-requires c κs = search needs
@@ -45,7 +49,7 @@ same-length-5 : tie.Need-same-length-5
 same-length-5 c = search needs
 
 returns : tie.Need-returns
-returns c = c .before .before .before .before .before .before .before .before .before .before .walk-tabled .ensures
+returns c = finishes (c .before .before .before .before .before .before .before .before .before .before .before .before .before .before .before .before .before .before .before .before .before .before .before .before .before .before .before .before .before .before .before .before .before .before .before .before .before .before .pre) _ _ _ (c .before .before .before .before .before .before .before .before .before .before .before .before .before .before .before .before .before .before .before .before .before .before .before .before .walk-all .ensures) _ _ _ (c .before .before .before .before .before .before .before .before .before .before .before .before .before .before .before .before .before .before .before .before .before .before .before .before .walk-all .last .1 .1 .1 .1 .1 .1 .1 .1 .0) _ _ (c .before .before .before .before .before .before .before .before .before .before .before .before .before .before .before .before .end .given .1) (c .before .before .before .before .before .before .before .before .before .before .before .before .images .ensures) (c .before .before .before .before .before .before .before .images2 .ensures) (c .before .before .before .fill .ensures) (c .before .before .before .before .before .before .before .before .before .before .before .before .before .before .before .before .before .before .before .before .before .before .before .before .walk-all .kept .1 .1 .1 .1 .1 .1 .1 .1 .0) (c .renumbered .ensures)
 
 same-length-6 : tie.Need-same-length-6
 same-length-6 c = search needs
@@ -63,19 +67,20 @@ same-length-10 : tie.Need-same-length-10
 same-length-10 c = search needs
 
 returns-2 : tie.Need-returns-2
-returns-2 c = clears (c .before .before .before .before .before .before .before .before .before .before .before .before .before .before .before .before .before .before .before .before .before .before .before .before .before .before .before .before .before .before .before .before .before .before .before .before .before .pre) _ _ _ _ _ _ _ _ _ _ _ (refuses (c .before .before .before .before .before .before .before .before .before .before .before .before .before .before .before .before .before .before .before .before .before .before .before .before .before .before .before .before .before .before .before .before .before .before .before .before .before .pre) _ (c .before .before .before .before .before .before .before .before .before .before .before .before .before .before .before .before .before .before .before .before .before .before .before .before .before .fill .ensures) _ _ (c .before .before .before .before .before .before .before .before .before .before .before .before .before .before .before .before .before .before .before .before .before .define-all .ensures) _ (c .before .before .before .before .before .before .before .before .before .before .before .before .before .before .before .before .before .check .given .1)) (c .before .before .before .before .before .before .before .before .before .before .clear .ensures) refl refl refl refl (whole-long (c .before .before .before .before .before .before .before .before .before .before .before .before .before .before .before .before .before .before .before .before .before .before .before .before .before .before .before .before .before .before .before .before .before .before .before .before .before .pre) _ (c .before .before .before .before .before .before .before .before .before .before .before .before .before .before .before .before .before .before .before .before .before .before .before .before .before .fill .ensures) _ _ (c .before .before .before .before .before .before .before .before .before .before .before .before .before .before .before .before .before .before .before .before .before .define-all .ensures) (c .before .before .before .before .before .before .before .before .before .before .before .before .before .before .before .before .before .before .before .before .before .define-all .kept .0))
+returns-2 c = clears (c .before .before .before .before .before .before .before .before .before .before .before .before .before .before .before .before .before .before .before .before .before .before .before .before .before .before .before .before .before .before .before .before .before .before .before .before .before .before .before .pre) _ _ _ _ _ _ _ _ _ _ _ (stops (c .before .before .before .before .before .before .before .before .before .before .before .before .before .before .before .before .before .before .before .before .before .before .before .before .before .before .before .before .before .before .before .before .before .before .before .before .before .before .before .pre) _ _ _ (c .before .before .before .before .before .before .before .before .before .before .before .before .before .before .before .before .before .before .before .before .before .before .before .before .before .walk-all .ensures) _ (c .before .before .before .before .before .before .before .before .before .before .before .before .before .before .before .before .before .end2 .given .1)) (c .before .before .before .before .before .before .before .before .before .before .clear .ensures) (c .before .before .before .before .before .before .before .before .before .before .before .before .before .before .before .before .before .before .before .before .before .before .before .before .before .walk-all .kept .1 .1 .1 .1 .1 .1 .0) refl refl (c .before .before .before .before .before .before .before .before .before .before .before .before .before .before .before .before .before .before .before .before .before .before .before .before .before .walk-all .kept .1 .1 .1 .1 .1 .1 .1 .0) (c .before .before .before .before .before .before .before .before .before .before .before .before .before .before .before .before .before .before .before .before .before .before .before .before .before .walk-all .kept .1 .1 .1 .1 .1 .1 .1 .1 .0)
 
 pub renumber-exact-spec : {M : Type 1} → statement M
 renumber-exact-spec =
     tie.close
     (tie.spec
+    walk-all-requires
+    enum-known-end
+    images-requires
+    images-requires-2
     fill-requires
-    slice-relend-prefix-define-all
-    slice-aggregate-define-all
-    define-all-requires
-    enum-told
-    walk-tabled-requires
-    enum-known-check
+    add-renumbered
+    renumbered-requires
+    enum-known-end-2
     clear-requires
     same-length
     same-length-2

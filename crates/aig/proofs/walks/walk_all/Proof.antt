@@ -1,25 +1,30 @@
--- `walks::walk_all` meets its contract: the lists stand for the start of the walks (proofs/Joining.antt). Assumes nothing.
+-- `walks::walk_all` meets its contract: the table says what checks 5 and 6 say (proofs/Tabling.antt). Assumes nothing.
 use borrow.Author.Needs.{needs}
 use Rattle.aig.proofs.walks.walk_all.Statement.{statement}
 use Rattle.aig.proofs.walks.walk_all.Tie as tie
-use Prim.Native.Nat.{ℕ, _+_}
-use mathlib.Core.Path.{ap, _∙_}
-use Rattle.aig.proofs.Joining.{can-walk, walks-end}
+use mathlib.Core.Path.{sym}
+use Rattle.aig.proofs.Tabling.{within-scratch, front-long, definable-front, ready-tables, refused-ends, walked-ends, whole-long}
 
-index-requires : tie.Need-index-requires
-index-requires c κs = search needs
+fill-requires : tie.Need-fill-requires
+fill-requires c κs = search needs
 
-wide-requires : tie.Need-wide-requires
-wide-requires c κs = search needs
+slice-relend-prefix-define-all : tie.Need-slice-relend-prefix-define-all
+slice-relend-prefix-define-all c = within-scratch (c .before .before .before .before .before .before .before .before .before .before .before .before .pre) _ (c .before .before .fill .ensures)
 
-add-t14 : tie.Need-add-t14
-add-t14 c = search needs
+slice-aggregate-define-all : tie.Need-slice-aggregate-define-all
+slice-aggregate-define-all c = sym (front-long (c .before .before .before .before .before .before .before .before .before .before .before .before .before .pre) _ (c .before .before .before .fill .ensures))
 
-add-t19 : tie.Need-add-t19
-add-t19 c = search needs
+define-all-requires : tie.Need-define-all-requires
+define-all-requires c κs = definable-front (c .before .before .before .before .before .before .before .before .before .before .before .before .before .pre) _ (c .before .before .before .fill .ensures)
 
-walked-requires : tie.Need-walked-requires
-walked-requires c κs = can-walk (c .before .before .before .before .before .before .before .before .before .before .before .before .before .before .pre) (c .before .before .before .wide .result + 1) (ap (λ (k : ℕ). k + 1) (c .before .before .before .wide .ensures ∙ c .before .before .before .before .index .ensures))
+enum-told : tie.Need-enum-told
+enum-told c = search needs
+
+walk-tabled-requires : tie.Need-walk-tabled-requires
+walk-tabled-requires c κs = ready-tables (c .before .before .before .before .before .before .before .before .before .before .before .before .before .before .before .before .before .before .before .before .before .pre) _ (c .before .before .before .before .before .before .before .before .before .before .before .fill .ensures) _ _ (c .before .before .before .before .before .before .before .define-all .ensures) (c .before .before .before .before .before .before .before .define-all .kept .0) (c .before .before .before .enum-told .given .1)
+
+enum-known-check : tie.Need-enum-known-check
+enum-known-check c = search needs
 
 same-length : tie.Need-same-length
 same-length c = search needs
@@ -31,18 +36,28 @@ same-length-3 : tie.Need-same-length-3
 same-length-3 c = search needs
 
 returns : tie.Need-returns
-returns c = walks-end (c .before .before .before .before .before .before .before .before .before .before .before .before .before .before .before .before .before .before .before .before .before .pre) (c .before .before .before .before .before .before .before .before .before .before .wide .result + 1) (ap (λ (k : ℕ). k + 1) (c .before .before .before .before .before .before .before .before .before .before .wide .ensures ∙ c .before .before .before .before .before .before .before .before .before .before .before .index .ensures)) _ _ _ _ (c .before .before .before .before .before .before .walked .ensures)
+returns c = walked-ends (ready-tables (c .before .before .before .before .before .before .before .before .before .before .before .before .before .before .before .before .before .before .before .before .before .before .before .before .before .before .before .before .pre) _ (c .before .before .before .before .before .before .before .before .before .before .before .before .before .before .before .before .before .before .fill .ensures) _ _ (c .before .before .before .before .before .before .before .before .before .before .before .before .before .before .define-all .ensures) (c .before .before .before .before .before .before .before .before .before .before .before .before .before .before .define-all .kept .0) (c .before .before .before .before .before .before .before .before .before .before .enum-told .given .1)) _ _ _ (c .before .before .before .before .before .before .walk-tabled .ensures)
+
+same-length-4 : tie.Need-same-length-4
+same-length-4 c = search needs
+
+returns-2 : tie.Need-returns-2
+returns-2 c = refused-ends (c .before .before .before .before .before .before .before .before .before .before .before .before .before .before .before .before .before .before .before .pre) _ (c .before .before .before .before .before .before .before .before .before .fill .ensures) _ _ (c .before .before .before .before .before .define-all .ensures) _ (c .before .check .given .1) _ _
 
 pub walk-all-spec : {M : Type 1} → statement M
 walk-all-spec =
     tie.close
     (tie.spec
-    index-requires
-    wide-requires
-    add-t14
-    add-t19
-    walked-requires
+    fill-requires
+    slice-relend-prefix-define-all
+    slice-aggregate-define-all
+    define-all-requires
+    enum-told
+    walk-tabled-requires
+    enum-known-check
     same-length
     same-length-2
     same-length-3
-    returns)
+    returns
+    same-length-4
+    returns-2)
