@@ -12,7 +12,7 @@ use Rattle.lit.specs.Code.{literal}
 use Rattle.lit.specs.declared.Lit.{Lit}
 use Rattle.aig.specs.declared.shape.Shape.{Shape}
 use Rattle.aig.specs.declared.stack.Frame.the-variants.{First, Second}
-use Rattle.aig.specs.declared.defs.GateNumber.the-variants.{Number, Nothing}
+use Rattle.aig.specs.declared.table.GateNumber.the-variants.{Number, Nothing}
 use Rattle.aig.specs.Table.{gateAt}
 use Rattle.aig.specs.Layout.{stackAt, stackOf}
 use Rattle.aig.specs.Stack.{inWord, middleIs}

@@ -24,7 +24,7 @@ use Rattle.circuit.proofs.Machine.{FrameOk, gate-fits}
 use Rattle.circuit.proofs.Words.{gateAt}
 use Rattle.aig.specs.declared.shape.Shape.{Shape}
 use Rattle.aig.specs.declared.fold.Pair.{Pair}
-use Rattle.aig.specs.declared.defs.GateNumber.the-variants.{Number, Nothing}
+use Rattle.aig.specs.declared.table.GateNumber.the-variants.{Number, Nothing}
 use Rattle.aig.specs.declared.walk.Walk.{Walk}
 use Rattle.aig.specs.declared.walk.State.the-variants.{Second, Return, Stopped}
 use Rattle.aig.specs.Table as table

@@ -27,10 +27,10 @@ use Rattle.checks.specs.declared.Found.the-variants as F
 use Rattle.checks.specs.declared.Check.{Check}
 use Rattle.checks.specs.declared.Check.the-variants.{Passed, Failed}
 use Rattle.checks.specs.Checks.{failAt}
-use Rattle.aig.specs.declared.defs.GateNumber.the-variants as N
-use Rattle.aig.specs.Table as T
-use Rattle.aig.specs.Table.{gateAt, Tells, Tabled}
-use Rattle.aig.specs.Define.{Defined, judgeAgain, tabled, defineAt, andThen, defineSources, defineGates, Judged, judged, judge, defineAll, Codes}
+use Rattle.aig.specs.declared.table.GateNumber.the-variants as N
+use Rattle.aig.specs.Table.{gateAt, Tells, Tabled, Codes}
+use Rattle.defs.specs.Define.{noGate, Defined, judgeAgain, tabled, defineAt, andThen, defineSources, defineGates, Judged, judged, judge, defineAll}
+use Rattle.defs.proofs.Definitions.{mark-is}
 
 -- the variables seen after a list
 abbrev seenAfter : List ℕ → List ℕ → List ℕ
@@ -41,11 +41,11 @@ seenAfter seen (d ∷ ds) = seenAfter (var d ∷ seen) ds
 record Known (gs : List Gate) (words n : ℕ) (seen t : List ℕ) : Type 0 where
   size : length t ≡ words
   marks : (v : ℕ) → v < words → elem v seen ≡ not (eqb (getD t v 0) 0)
-  right : (v : ℕ) → 2 ≤ getD t v 0 → (getD t v 0 - 2 < length gs) × (outVar (getD gs (getD t v 0 - 2) T.noGate) ≡ v)
-  there : (k : ℕ) → k < n → 2 ≤ getD t (outVar (getD gs k T.noGate)) 0
+  right : (v : ℕ) → 2 ≤ getD t v 0 → (getD t v 0 - 2 < length gs) × (outVar (getD gs (getD t v 0 - 2) noGate) ≡ v)
+  there : (k : ℕ) → k < n → 2 ≤ getD t (outVar (getD gs k noGate)) 0
 
 abbrev Right : List Gate → ℕ → ℕ → Type 0
-Right gs x u = 2 ≤ x → (x - 2 < length gs) × (outVar (getD gs (x - 2) T.noGate) ≡ u)
+Right gs x u = 2 ≤ x → (x - 2 < length gs) × (outVar (getD gs (x - 2) noGate) ≡ u)
 
 module _ (gs : List Gate) (words : ℕ) where
   -- one more variable is marked, where it was not
@@ -63,16 +63,16 @@ module _ (gs : List Gate) (words : ℕ) where
         go true (same e) = rw (ap (λ (u : ℕ). getD (set t (var d) mark) u 0) e ∙ here, ne-eqb mark 0 nz)
         go false (other n′) = rw (getD-set-other t (var d) v mark 0 n′) (k .marks v h)
 
-    right-more : ((2 ≤ mark) → (mark - 2 < length gs) × (outVar (getD gs (mark - 2) T.noGate) ≡ var d)) → (v : ℕ) → 2 ≤ getD (set t (var d) mark) v 0
-        → (getD (set t (var d) mark) v 0 - 2 < length gs) × (outVar (getD gs (getD (set t (var d) mark) v 0 - 2) T.noGate) ≡ v)
+    right-more : ((2 ≤ mark) → (mark - 2 < length gs) × (outVar (getD gs (mark - 2) noGate) ≡ var d)) → (v : ℕ) → 2 ≤ getD (set t (var d) mark) v 0
+        → (getD (set t (var d) mark) v 0 - 2 < length gs) × (outVar (getD gs (getD (set t (var d) mark) v 0 - 2) noGate) ≡ v)
     right-more new v = go (eqb v (var d)) (sameTest v (var d))
       where
         go : (b : Bool) → Same v (var d) b → Right gs (getD (set t (var d) mark) v 0) v
         go true (same e) = subst⁻¹ (λ (u : ℕ). Right gs (getD (set t (var d) mark) u 0) u) e (subst⁻¹ (λ (x : ℕ). Right gs x (var d)) here new)
         go false (other n′) = subst⁻¹ (λ (x : ℕ). Right gs x v) (getD-set-other t (var d) v mark 0 n′) (k .right v)
 
-    there-more : (j : ℕ) → j < n → 2 ≤ getD (set t (var d) mark) (outVar (getD gs j T.noGate)) 0
-    there-more j h = omega (arith, there′ (outVar (getD gs j T.noGate)) (k .there j h), k .there j h)
+    there-more : (j : ℕ) → j < n → 2 ≤ getD (set t (var d) mark) (outVar (getD gs j noGate)) 0
+    there-more j h = omega (arith, there′ (outVar (getD gs j noGate)) (k .there j h), k .there j h)
 
   -- a source
   source-known : {n : ℕ} {seen t : List ℕ} → Known gs words n seen t → (d : ℕ) → var d < words → getD t (var d) 0 ≡ 0
@@ -86,24 +86,24 @@ module _ (gs : List Gate) (words : ℕ) where
       }
 
   -- gate n
-  gate-known : {n : ℕ} {seen t : List ℕ} → Known gs words n seen t → n < length gs → (g : Gate) → getD gs n T.noGate ≡ g → outVar g < words → getD t (outVar g) 0 ≡ 0
+  gate-known : {n : ℕ} {seen t : List ℕ} → Known gs words n seen t → n < length gs → (g : Gate) → getD gs n noGate ≡ g → outVar g < words → getD t (outVar g) 0 ≡ 0
       → Known gs words (n + 1) (outVar g ∷ seen) (set t (outVar g) (n + 2))
   gate-known {n} {seen} {t} k few g is h e =
       record {
         size = length-set t (outVar g) (n + 2) ∙ k .size;
         marks = marks-more k (g .output) (n + 2) h e (omega arith);
-        right = right-more k (g .output) (n + 2) h e (λ p. (omega arith, ap outVar (ap (λ (j : ℕ). getD gs j T.noGate) two ∙ is)));
+        right = right-more k (g .output) (n + 2) h e (λ p. (omega arith, ap outVar (ap (λ (j : ℕ). getD gs j noGate) two ∙ is)));
         there = λ j l. go j (last-or n j (omega arith));
       }
     where
       two : n + 2 - 2 ≡ n
       two = omega arith
 
-      go : (j : ℕ) → (j < n) ⊎ (j ≡ n) → 2 ≤ getD (set t (outVar g) (n + 2)) (outVar (getD gs j T.noGate)) 0
+      go : (j : ℕ) → (j < n) ⊎ (j ≡ n) → 2 ≤ getD (set t (outVar g) (n + 2)) (outVar (getD gs j noGate)) 0
       go j (inl l) = there-more k (g .output) (n + 2) h e j l
       go j (inr q) =
-          let a : getD (set t (outVar g) (n + 2)) (outVar (getD gs j T.noGate)) 0 ≡ n + 2
-          = ap (λ (x : Gate). getD (set t (outVar g) (n + 2)) (outVar x) 0) (ap (λ (i : ℕ). getD gs i T.noGate) q ∙ is) ∙ here k (g .output) (n + 2) h e in
+          let a : getD (set t (outVar g) (n + 2)) (outVar (getD gs j noGate)) 0 ≡ n + 2
+          = ap (λ (x : Gate). getD (set t (outVar g) (n + 2)) (outVar x) 0) (ap (λ (i : ℕ). getD gs i noGate) q ∙ is) ∙ here k (g .output) (n + 2) h e in
           omega arith
 
 -- what a table was told of a list, and what the check says of it
@@ -132,17 +132,17 @@ module _ (gs : List Gate) (words : ℕ) where
       go true (same e) rec = rec e
       go false (other z) rec = refl
 
-  gates-say : (hs : List Gate) (n : ℕ) {seen t : List ℕ} → n + length hs ≡ length gs → ((j : ℕ) → j < length hs → getD gs (n + j) T.noGate ≡ getD hs j T.noGate)
+  gates-say : length gs ≤ 1048575 → (hs : List Gate) (n : ℕ) {seen t : List ℕ} → n + length hs ≡ length gs → ((j : ℕ) → j < length hs → getD gs (n + j) noGate ≡ getD hs j noGate)
       → Known gs words n seen t → Codes words (map (λ g. g .output) hs)
       → Say (λ w. Known gs words (length gs) (seenAfter seen (map (λ g. g .output) hs)) w) (defineGates t hs n) (firstAgain seen (map (λ g. g .output) hs))
   unfolding defineGates defineAt
-  gates-say [] n {seen} {t} e f k codes = subst (λ (m : ℕ). Known gs words m seen t) (omega arith) k
-  gates-say (g ∷ hs) n {seen} {t} e f k codes =
-      rw (k .marks (outVar g) (codes (g .output) (inl refl)))
+  gates-say few [] n {seen} {t} e f k codes = subst (λ (m : ℕ). Known gs words m seen t) (omega arith) k
+  gates-say few (g ∷ hs) n {seen} {t} e f k codes =
+      rw (mark-is n (omega arith), k .marks (outVar g) (codes (g .output) (inl refl)))
       (go (eqb (getD t (outVar g) 0) 0) (sameTest (getD t (outVar g) 0) 0)
-      (λ z. gates-say hs (n + 1) (omega arith)
-      (λ j h. ap (λ (i : ℕ). getD gs i T.noGate) (assoc j) ∙ f (suc j) (omega arith))
-      (gate-known gs words k (omega arith) g (ap (λ (i : ℕ). getD gs i T.noGate) (sym plus) ∙ f 0 (omega arith)) (codes (g .output) (inl refl)) z) (λ c h. codes c (inr h))))
+      (λ z. gates-say few hs (n + 1) (omega arith)
+      (λ j h. ap (λ (i : ℕ). getD gs i noGate) (assoc j) ∙ f (suc j) (omega arith))
+      (gate-known gs words k (omega arith) g (ap (λ (i : ℕ). getD gs i noGate) (sym plus) ∙ f 0 (omega arith)) (codes (g .output) (inl refl)) z) (λ c h. codes c (inr h))))
     where
       plus : n + 0 ≡ n
       plus = omega arith
@@ -244,7 +244,7 @@ known-tabled : (G : Graph) (words : ℕ) (seen t : List ℕ) → DefinedOnce G �
 unfolding gateAt
 known-tabled G words seen t once k v h = go (ltb (getD t v 0) 2) (leTest (suc (getD t v 0)) 2)
   where
-    place : (g : Gate) (gs : List Gate) → In g gs → (j : ℕ) × (j < length gs) × (getD gs j T.noGate ≡ g)
+    place : (g : Gate) (gs : List Gate) → In g gs → (j : ℕ) × (j < length gs) × (getD gs j noGate ≡ g)
     place g [] m = absurd m
     place g (x ∷ gs) (inl e) = (0, omega arith, sym e)
     place g (x ∷ gs) (inr m) = let r = place g gs m in (suc (r .0), omega (arith, r .1), r .2)
@@ -259,9 +259,9 @@ known-tabled G words seen t once k v h = go (ltb (getD t v 0) 2) (leTest (suc (g
     go true (atMost low) = nothing (omega arith) (gateFor (G .gates) v) (gateFound (G .gates) v)
     go false (above high) =
         let r = k .right v (omega arith) in
-        (r .0, gateFor-of G once (getD (G .gates) (getD t v 0 - 2) T.noGate) v (In-getD (G .gates) (getD t v 0 - 2) T.noGate (r .0)) (r .1))
+        (r .0, gateFor-of G once (getD (G .gates) (getD t v 0 - 2) noGate) v (In-getD (G .gates) (getD t v 0 - 2) noGate (r .0)) (r .1))
 
-module _ (inputs states : List ℕ) (gs : List Gate) (words : ℕ) (some′ : 0 < words) (codesI : Codes words inputs) (codesS : Codes words states)
+module _ (inputs states : List ℕ) (gs : List Gate) (words : ℕ) (some′ : 0 < words) (few : length gs ≤ 1048575) (codesI : Codes words inputs) (codesS : Codes words states)
     (codesG : Codes words (map (λ g. g .output) gs)) where
   abbrev outs : List ℕ
   outs = map (λ g. g .output) gs
@@ -297,7 +297,7 @@ module _ (inputs states : List ℕ) (gs : List Gate) (words : ℕ) (some′ : 0 
       → JudgeOf Ends (judge Again (defineGates t gs 0) (λ t₂. judge StateAgain (defineSources t₂ states) (λ t₃. judged t₃ Passed))) nextly
   by-gates t k =
       judge-say Again (Known gs words (length gs) seenGates) Ends (defineGates t gs 0) (firstAgain seenInputs outs)
-      (λ t₂. judge StateAgain (defineSources t₂ states) (λ t₃. judged t₃ Passed)) lastly (gates-say gs words gs 0 all (λ j h. ap (λ (i : ℕ). getD gs i T.noGate) (from j)) k codesG)
+      (λ t₂. judge StateAgain (defineSources t₂ states) (λ t₃. judged t₃ Passed)) lastly (gates-say gs words few gs 0 all (λ j h. ap (λ (i : ℕ). getD gs i noGate) (from j)) k codesG)
       by-states
     where
       all : 0 + length gs ≡ length gs

@@ -20,12 +20,13 @@ use Rattle.aig.specs.declared.walk.Walk.{Walk}
 use Rattle.aig.specs.declared.walk.State.the-variants.{Transfer}
 use Rattle.aig.specs.declared.walk.Walked.{Walked}
 use Rattle.aig.specs.declared.walk.Walked.the-variants.{Reached, Stopped}
-use Rattle.aig.specs.Table.{noGate}
+use Rattle.defs.specs.Define.{noGate}
+use Rattle.defs.proofs.Definitions.{gates-at}
 use Rattle.aig.specs.Settle.{numbers}
 use Rattle.aig.specs.Going.{netOf, Going, Long}
 use Rattle.aig.specs.Turns.{Walking, Ended, Runs}
 use Rattle.aig.specs.Walks.{Waiting, Waits, AllInside, CanWalk, Walks, outputsOf}
-use Rattle.aig.proofs.Standing.{lists-long, gates-at, gate-count}
+use Rattle.aig.proofs.Standing.{lists-long, gate-count}
 
 module _ {s : Shape} {sources gates : List ℕ} {o : Out} {made : ℕ} {c : ℕ} {rest images out scratch : List ℕ}
     (w : Waiting s sources gates o made (c ∷ rest) images out scratch) where

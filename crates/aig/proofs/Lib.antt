@@ -1,5 +1,4 @@
 pub mod Theorems
-pub mod Definitions
 pub mod Defining
 pub mod Bounds
 pub mod Joining

@@ -8,7 +8,7 @@ use Rattle.lit.specs.Code.{var}
 use Rattle.lit.specs.declared.Lit.{Lit}
 use Rattle.circuit.specs.Walk.{Out}
 use Rattle.aig.specs.declared.shape.Shape.{Shape}
-use Rattle.aig.specs.declared.defs.GateNumber.the-variants.{Number}
+use Rattle.aig.specs.declared.table.GateNumber.the-variants.{Number}
 use Rattle.aig.specs.declared.walk.Walk.{Walk}
 use Rattle.aig.specs.declared.walk.State.{State}
 use Rattle.aig.specs.declared.walk.State.the-variants.{Transfer, First, Second, Return}

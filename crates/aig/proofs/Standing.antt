@@ -18,28 +18,18 @@ use Rattle.circuit.proofs.Invariant.{Inv}
 use Rattle.circuit.proofs.Machine.{Running}
 use Rattle.circuit.proofs.Words.{gateAt, gates-length, stack-length, middle-words, path-length}
 use Rattle.aig.specs.declared.shape.Shape.{Shape}
-use Rattle.aig.specs.declared.defs.GateNumber.the-variants.{Number, Nothing}
+use Rattle.aig.specs.declared.table.GateNumber.the-variants.{Number, Nothing}
 use Rattle.aig.specs.Table as table
 use Rattle.aig.specs.Layout.{headsAt, nextsAt, stackAt, tableOf, headsOf, nextsOf, stackOf, Room}
 use Rattle.aig.specs.Stack.{middleIs}
 use Rattle.aig.specs.Chains.{Chains}
 use Rattle.aig.specs.Going.{netOf, topOf, Ground, Holds, Stacked, Long}
+use Rattle.defs.specs.Define.{noGate}
+use Rattle.defs.proofs.Definitions.{gates-at}
 use Rattle.circuit.proofs.Tests.{Same, same, other, sameTest}
 use Rattle.aig.proofs.Stepping.{returning}
 use Rattle.aig.proofs.Parts.{part-set, part-after, part-length}
 use Rattle.aig.proofs.Finding.{out-length}
-
--- flat gates by number
-pub gates-at : (ws : List ℕ) (k : ℕ) → k < length ws / 3 → getD (gatesOf ws) k table.noGate ≡ gateAt ws k
-gates-at [] k h = absurd (omega arith)
-gates-at (o ∷ []) k h = absurd (omega arith)
-gates-at (o ∷ a ∷ []) k h = absurd (omega arith)
-gates-at (o ∷ a ∷ b ∷ ws) zero h = refl
-gates-at (o ∷ a ∷ b ∷ ws) (suc k) h =
-    let e₀ : 3 * suc k ≡ suc (suc (suc (3 * k))) = omega arith in
-    let e₁ : suc (suc (suc (3 * k))) + 1 ≡ suc (suc (suc (3 * k + 1))) = omega arith in
-    let e₂ : suc (suc (suc (3 * k))) + 2 ≡ suc (suc (suc (3 * k + 2))) = omega arith in
-    rw (e₀, e₁, e₂) (gates-at ws k (omega arith))
 
 module _ {s : Shape} {sources gates : List ℕ} (g : Ground s sources gates) where
   pub gate-count : length (gatesOf gates) ≡ s .gates
@@ -64,7 +54,7 @@ module _ {s : Shape} {sources gates : List ℕ} (g : Ground s sources gates) whe
       table-none e = subst (table.Tells (gatesOf gates) v) e told
 
       module _ (j : ℕ) (e : table.gateAt scratch v ≡ Number j) where
-        at-number : (j < length (gatesOf gates)) × (gateFor (gatesOf gates) v ≡ some (getD (gatesOf gates) j table.noGate))
+        at-number : (j < length (gatesOf gates)) × (gateFor (gatesOf gates) v ≡ some (getD (gatesOf gates) j noGate))
         at-number = subst (table.Tells (gatesOf gates) v) e told
 
         pub number-reads : 3 * j + 2 < length gates

@@ -15,17 +15,16 @@ use Rattle.circuit.specs.Walk.{Out, stopped, walkAll}
 use Rattle.circuit.specs.Circuit.{Circuit, graph, net, gateOutputs, gateCodes, firstAgain, definitions, start, walked, orRefuse, renumber}
 use Rattle.circuit.specs.Outcome.{Lent, circuitOf, gatesOf, mapWords, zeros}
 use Rattle.circuit.proofs.Checks.{Apart, Again, once, againTest, map-append, map-outputs, parts-join}
-use Rattle.circuit.proofs.Words.{gates-length}
 use Rattle.checks.specs.declared.Check.{Check}
 use Rattle.checks.specs.declared.Check.the-variants.{Passed, Failed}
 use Rattle.checks.specs.Checks.{failAt}
 use Rattle.aig.specs.declared.walk.Walked.{Walked}
 use Rattle.aig.specs.declared.walk.Walked.the-variants.{Stopped}
 use Rattle.aig.specs.Lending.{MapRoom}
-use Rattle.aig.specs.Table.{Tabled}
-use Rattle.aig.specs.Define.{judged, defineAll, Definable}
+use Rattle.aig.specs.Table.{Tabled, Codes}
+use Rattle.defs.specs.Define.{judged, defineAll}
 use Rattle.aig.specs.Walked.{WalkRoom, WalkTabled, WalkReady, WalkEnds}
-use Rattle.aig.proofs.Bounds.{input-low, word-low, output-low, state-low}
+use Rattle.aig.proofs.Bounds.{input-low, output-low, state-low}
 use Rattle.aig.proofs.Defining.{defines, tables}
 
 -- checks 5 and 6, and the walks
@@ -47,15 +46,14 @@ module _ {l : Lent} {words out scratch : List ℕ} (x : WalkRoom l words out scr
   after-four = rw (x .four)
 
   -- the codes that the table is asked
-  pub definable : (n : ℕ) → n ≡ D .top + 1 → Definable n (l .inputs) (l .states) (l .gates)
-  definable n e =
-      record {
-        some = omega arith;
-        few = omega (arith, x .within .gates, gates-length (l .gates));
-        inputCodes = λ c h. omega (arith, input-low (x .bounds) (x .agrees) c h);
-        stateCodes = λ c h. omega (arith, state-low (x .bounds) (x .agrees) c h);
-        gateCodes = λ c h. omega (arith, word-low (x .bounds) (x .agrees) c h);
-      }
+  input-codes : Codes (length words) (l .inputs)
+  input-codes c h = omega (arith, input-low (x .bounds) (x .agrees) c h, x .mapLong)
+
+  state-codes : Codes (length words) (l .states)
+  state-codes c h = omega (arith, state-low (x .bounds) (x .agrees) c h, x .mapLong)
+
+  output-codes : Codes (length words) (gateOutputs D)
+  output-codes c h = omega (arith, output-low (x .bounds) (x .agrees) c h, x .mapLong)
 
   -- no variable is defined twice
   pub once-of : five ≡ none → six ≡ none → DefinedOnce (graph D)
@@ -90,9 +88,6 @@ module _ {l : Lent} {words out scratch : List ℕ} (x : WalkRoom l words out scr
     pub front-long : length (take n s) ≡ n
     front-long = length-take-le n s within-scratch
 
-    pub definable-front : Definable (length (take n s)) (l .inputs) (l .states) (l .gates)
-    definable-front = definable (length (take n s)) (front-long ∙ x .mapLong)
-
     take-zeros : (j k : ℕ) → j ≤ k → take j (zeros k) ≡ zeros j
     take-zeros zero k h = refl
     take-zeros (suc j) zero h = absurd (omega arith)
@@ -106,18 +101,15 @@ module _ {l : Lent} {words out scratch : List ℕ} (x : WalkRoom l words out scr
     blank : take n s ≡ zeros n
     blank = ap (take n) clean ∙ take-zeros n (length scratch) (omega (arith, within-scratch, long))
 
-    outputs-low : (c : ℕ) → In c (gateOutputs D) → var c < n
-    outputs-low c h = omega (arith, output-low (x .bounds) (x .agrees) c h, x .mapLong)
-
     module _ (t : List ℕ) (r : Check) (e : judged t r ≡ defineAll (take n s) (l .inputs) (l .states) (gatesOf (l .gates))) where
       e′ : judged t r ≡ defineAll (zeros n) (l .inputs) (l .states) (D .gates)
       e′ = e ∙ ap (λ (y : List ℕ). defineAll y (l .inputs) (l .states) (D .gates)) blank
 
-      abbrev table-of : Definable n (l .inputs) (l .states) (l .gates)
-      table-of = definable n (x .mapLong)
+      some-words : 0 < n
+      some-words = omega (arith, x .mapLong)
 
       says : r ≡ failAt five R.Again (failAt six R.StateAgain Passed)
-      says = defines (l .inputs) (l .states) (D .gates) n (table-of .some) (table-of .inputCodes) (table-of .stateCodes) outputs-low t r e′
+      says = defines (l .inputs) (l .states) (D .gates) n some-words (x .within .gates) input-codes state-codes output-codes t r e′
 
       refuses : (why : Refusal) → r ≡ Failed why → renumber D ≡ stopped why
       refuses why p = after-four ∙ go five six (sym p ∙ says)
@@ -161,7 +153,7 @@ module _ {l : Lent} {words out scratch : List ℕ} (x : WalkRoom l words out scr
               five = both p .0;
               six = both p .1;
               table = subst⁻¹ (Tabled (D .gates)) front-is
-                  (tables (l .inputs) (l .states) (D .gates) n (table-of .some) (table-of .inputCodes) (table-of .stateCodes) outputs-low t r e′ p (once-of (both p .0) (both p .1)));
+                  (tables (l .inputs) (l .states) (D .gates) n some-words (x .within .gates) input-codes state-codes output-codes t r e′ p (once-of (both p .0) (both p .1)));
               clean = rest-is;
             }
           where

@@ -21,7 +21,7 @@ use Rattle.circuit.specs.Outcome.{gatesOf}
 use Rattle.circuit.proofs.Machine.{Running, comesTo}
 use Rattle.circuit.proofs.Words.{gateAt}
 use Rattle.aig.specs.declared.shape.Shape.{Shape}
-use Rattle.aig.specs.declared.defs.GateNumber.the-variants.{Number, Nothing}
+use Rattle.aig.specs.declared.table.GateNumber.the-variants.{Number, Nothing}
 use Rattle.aig.specs.declared.stack.Frame.the-variants as entry
 use Rattle.aig.specs.declared.walk.Walk.{Walk}
 use Rattle.aig.specs.declared.walk.State.{State}

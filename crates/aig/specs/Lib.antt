@@ -1,6 +1,5 @@
 pub mod Lending
 pub mod Table
-pub mod Define
 pub mod Layout
 pub mod Stack
 pub mod Chains

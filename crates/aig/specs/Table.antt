@@ -7,16 +7,15 @@ use mathlib.Core.Option.{none, some}
 use mathlib.Core.List.{List}
 use lib.Dec.{ltb}
 use lib.ListN.{length, getD}
-use Rattle.circuit.specs.Graph.{Gate, gateFor}
-use Rattle.aig.specs.declared.defs.GateNumber.{GateNumber}
-use Rattle.aig.specs.declared.defs.GateNumber.the-variants.{Number, Nothing}
+use Rattle.lit.specs.Code.{var}
+use Rattle.circuit.specs.Graph.{In, Gate, gateFor}
+use Rattle.defs.specs.Define.{noGate}
+use Rattle.aig.specs.declared.table.GateNumber.{GateNumber}
+use Rattle.aig.specs.declared.table.GateNumber.the-variants.{Number, Nothing}
 
 -- the number of the gate that a table gives a variable
 unfoldable pub gateAt : List ℕ → ℕ → GateNumber
 gateAt t v = cond (ltb (getD t v 0) 2) Nothing (Number (getD t v 0 - 2))
-
-abbrev pub noGate : Gate
-noGate = record { output = 0; first = 0; second = 0 }
 
 -- what a table says of a variable is what the search among the gates finds
 abbrev pub Tells : List Gate → ℕ → GateNumber → Type 0
@@ -25,3 +24,7 @@ Tells gs v (Number k) = (k < length gs) × (gateFor gs v ≡ some (getD gs k noG
 
 abbrev pub Tabled : List Gate → List ℕ → Type 0
 Tabled gs t = (v : ℕ) → v < length t → Tells gs v (gateAt t v)
+
+-- the variables of a list's codes have a word in a table of n words
+abbrev pub Codes : ℕ → List ℕ → Type 0
+Codes n cs = (c : ℕ) → In c cs → var c < n

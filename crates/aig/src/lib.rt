@@ -1,6 +1,5 @@
 // Renumbering of AIGER circuits over lent lists: literals get new codes so that a gate's code is larger than those of its inputs.
 mod chains;
-mod defs;
 mod fit;
 mod flat;
 mod fold;
@@ -9,6 +8,7 @@ mod order;
 mod shape;
 mod stack;
 mod store;
+mod table;
 mod walk;
 mod walks;
 

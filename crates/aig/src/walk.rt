@@ -11,8 +11,6 @@ ghost use Rattle.aig.specs.Store.{MadeIn};
 ghost use Rattle.aig.specs.Settle.{numbers, left, appended, settled, CanSettle};
 ghost use Rattle.aig.specs.Turns.{Walking, Turns, Runs};
 use crate::chains;
-use crate::defs;
-use crate::defs::GateNumber;
 use crate::flat;
 use crate::fold::Already;
 use crate::fold::Pair;
@@ -20,6 +18,8 @@ use crate::shape::Shape;
 use crate::stack;
 use crate::stack::Frame;
 use crate::store;
+use crate::table;
+use crate::table::GateNumber;
 use circuit::Image;
 use circuit::Refusal;
 use lent::map;
@@ -110,7 +110,7 @@ impl Walk {
         if stack::middle(scratch, shape, self.depth, lit) {
             return State::Stopped(Refusal::Cycle(lit));
         }
-        let number = defs::gate_of(scratch, lit);
+        let number = table::gate_of(scratch, lit);
         let GateNumber::Number(k) = number else {
             return State::Stopped(Refusal::Undefined(lit));
         };
@@ -126,7 +126,7 @@ impl Walk {
         requires { ⌜ ((map : List ℕ) × (out : List ℕ) × Walking shape (now gates) (State.First self lit) map out (now scratch)) ⌝ }
         ensures { λ r. ⌜ ((map out : List ℕ) → Turns shape (now (gates .entry)) (State.First self lit) map out (now (scratch .entry)) r map out (now (scratch .exit))) ⌝ }
     {
-        let number = defs::gate_of(scratch, lit);
+        let number = table::gate_of(scratch, lit);
         let GateNumber::Number(k) = number else {
             return State::Stopped(Refusal::Undefined(lit));
         };
@@ -147,7 +147,7 @@ impl Walk {
         requires { ⌜ Walking shape (now gates) (State.Second self lit) (now map) (now out) (now scratch) ⌝ }
         ensures { λ r. ⌜ Turns shape (now (gates .entry)) (State.Second self lit) (now (map .entry)) (now (out .entry)) (now (scratch .entry)) r (now (map .exit)) (now (out .exit)) (now (scratch .exit)) ⌝ }
     {
-        let number = defs::gate_of(scratch, lit);
+        let number = table::gate_of(scratch, lit);
         let GateNumber::Number(k) = number else {
             return State::Stopped(Refusal::Undefined(lit));
         };

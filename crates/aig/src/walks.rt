@@ -5,7 +5,6 @@ ghost use Rattle.circuit.specs.Circuit as definitions;
 ghost use Rattle.circuit.specs.Walk.{walkAll};
 ghost use Rattle.checks.specs.Lending.{bare, circuitIn};
 ghost use Rattle.aig.specs.Walked.{WalkRoom, WalkTabled, WalkEnds};
-use crate::defs;
 use crate::images;
 use crate::order;
 use crate::shape::Shape;

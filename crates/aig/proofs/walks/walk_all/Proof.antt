@@ -3,7 +3,7 @@ use borrow.Author.Needs.{needs}
 use Rattle.aig.proofs.walks.walk_all.Statement.{statement}
 use Rattle.aig.proofs.walks.walk_all.Tie as tie
 use mathlib.Core.Path.{sym}
-use Rattle.aig.proofs.Tabling.{within-scratch, front-long, definable-front, ready-tables, refused-ends, walked-ends, whole-long}
+use Rattle.aig.proofs.Tabling.{within-scratch, front-long, ready-tables, refused-ends, walked-ends, whole-long}
 
 fill-requires : tie.Need-fill-requires
 fill-requires c κs = search needs
@@ -15,7 +15,7 @@ slice-aggregate-define-all : tie.Need-slice-aggregate-define-all
 slice-aggregate-define-all c = sym (front-long (c .before .before .before .before .before .before .before .before .before .before .before .before .before .pre) _ (c .before .before .before .fill .ensures))
 
 define-all-requires : tie.Need-define-all-requires
-define-all-requires c κs = definable-front (c .before .before .before .before .before .before .before .before .before .before .before .before .before .pre) _ (c .before .before .before .fill .ensures)
+define-all-requires c κs = search needs
 
 enum-told : tie.Need-enum-told
 enum-told c = search needs

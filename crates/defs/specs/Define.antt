@@ -1,15 +1,14 @@
 -- Filling the table of definitions: checks 5 and 6 as the code makes them, over words. Assumes nothing.
-use Prim.Native.Nat.{ℕ, _+_, _/_, _<_, _≤_}
+use Prim.Native.Nat.{ℕ, _+_, _%_, _^_}
 use mathlib.Core.Bool.{cond}
-use mathlib.Core.Option.{some}
 use mathlib.Core.List.{List, [], _∷_}
 use lib.Dec.{eqb}
-use lib.ListN.{length, getD, set}
+use lib.ListN.{getD, set}
 use Rattle.lit.specs.Code.{var, literal}
 use Rattle.lit.specs.declared.Lit.{Lit}
 use Rattle.circuit.specs.declared.Refusal.{Refusal}
 use Rattle.circuit.specs.declared.Refusal.the-variants.{Again, StateAgain}
-use Rattle.circuit.specs.Graph.{In, Gate}
+use Rattle.circuit.specs.Graph.{Gate}
 use Rattle.checks.specs.declared.Found.{Found}
 use Rattle.checks.specs.declared.Found.the-variants as F
 use Rattle.checks.specs.declared.Check.{Check}
@@ -23,7 +22,7 @@ pub record Defined : Type 0 where
 abbrev pub tabled : List ℕ → Found → Defined
 tabled t again = record { words = t; again = again }
 
--- a literal's variable gets its mark, if it has none
+-- a literal's variable gets its mark, if it has none; past the table there is nothing to mark
 unfoldable pub defineAt : List ℕ → ℕ → ℕ → Defined
 defineAt t d mark = cond (eqb (getD t (var d) 0) 0) (tabled (set t (var d) mark) F.Nothing) (tabled t (F.Literal (literal d)))
 
@@ -34,14 +33,23 @@ onward (F.Literal l) stays next = stays
 abbrev pub andThen : Defined → (List ℕ → Defined) → Defined
 andThen d next = onward (d .again) d (next (d .words))
 
+-- inputs, or latch states
 unfoldable pub defineSources : List ℕ → List ℕ → Defined
 defineSources t [] = tabled t F.Nothing
 defineSources t (d ∷ ds) = andThen (defineAt t d 1) (λ w. defineSources w ds)
 
+-- the mark of gate k, as far as a word holds it
+unfoldable pub markOf : ℕ → ℕ
+markOf k = (k + 2) % 2 ^ 32
+
+-- no gate
+abbrev pub noGate : Gate
+noGate = record { output = 0; first = 0; second = 0 }
+
 -- gates from number k on
 unfoldable pub defineGates : List ℕ → List Gate → ℕ → Defined
 defineGates t [] k = tabled t F.Nothing
-defineGates t (g ∷ gs) k = andThen (defineAt t (g .output) (k + 2)) (λ w. defineGates w gs (k + 1))
+defineGates t (g ∷ gs) k = andThen (defineAt t (g .output) (markOf k)) (λ w. defineGates w gs (k + 1))
 
 -- a table, and what the checks over it say
 pub record Judged : Type 0 where
@@ -63,15 +71,3 @@ unfoldable pub defineAll : List ℕ → List ℕ → List ℕ → List Gate → 
 defineAll t inputs states gs =
     judge Again (defineSources (set t 0 1) inputs)
     (λ t₁. judge Again (defineGates t₁ gs 0) (λ t₂. judge StateAgain (defineSources t₂ states) (λ t₃. judged t₃ Passed)))
-
--- the variables of a list's codes have a word in a table of n words
-abbrev pub Codes : ℕ → List ℕ → Type 0
-Codes n cs = (c : ℕ) → In c cs → var c < n
-
--- a table of n words has one for the constant and for each code's variable, and a gate's number fits a word
-pub record Definable (n : ℕ) (inputs states gates : List ℕ) : Type 0 where
-  pub some : 0 < n
-  pub few : length gates / 3 ≤ 1048575
-  pub inputCodes : Codes n inputs
-  pub stateCodes : Codes n states
-  pub gateCodes : Codes n gates

@@ -1,7 +1,7 @@
--- `defs::gate_of`: a word below 2 names no gate, any other the gate that many less 2. Assumes nothing.
+-- `table::gate_of`: a word below 2 names no gate, any other the gate that many less 2. Assumes nothing.
 use borrow.Author.Needs.{needs}
-use Rattle.aig.proofs.defs.gate_of.Statement.{statement}
-use Rattle.aig.proofs.defs.gate_of.Tie as tie
+use Rattle.aig.proofs.table.gate_of.Statement.{statement}
+use Rattle.aig.proofs.table.gate_of.Tie as tie
 use Rattle.aig.proofs.Accessors.{no-gate, a-gate}
 
 place-of-requires : tie.Need-place-of-requires

@@ -1,16 +1,15 @@
--- `defs::define_sources` meets its contract: what is left to define falls by one literal a turn. Assumes nothing.
+-- `define_sources` meets its contract: what is left to define falls by one literal a turn. Assumes nothing.
 use borrow.Author.Needs.{needs}
-use Rattle.aig.proofs.defs.define_sources.Statement.{statement}
-use Rattle.aig.proofs.defs.define_sources.Tie as tie
+use Rattle.defs.proofs.define_sources.Statement.{statement}
+use Rattle.defs.proofs.define_sources.Tie as tie
 use native.Mathlib.Omega.{arith}
 use denote.Ref.{now}
 use Prim.Native.Nat.{_≤_, _-_}
 use mathlib.Core.Path.{_≡_, sym, ap, _∙_}
-use Rattle.circuit.proofs.Lists.{In-getD}
 use Rattle.lit.specs.declared.Lit.{Lit}
 use lib.ListN.{length, getD, drop}
-use Rattle.aig.proofs.Definitions.{sources-on, sources-again, sources-end}
-use Rattle.aig.specs.Define.{defineSources}
+use Rattle.defs.proofs.Definitions.{sources-on, sources-again, sources-end}
+use Rattle.defs.specs.Define.{defineSources}
 
 abbrev Inv-loop : tie.InvT-loop
 Inv-loop table₀ literals i₀ table i = (i ≤ length literals) × (length table ≡ length table₀) × (defineSources table₀ literals ≡ defineSources table (drop i literals))
@@ -31,7 +30,7 @@ from-code-requires : tie.Need-from-code-requires Inv-loop μ-loop
 from-code-requires c κs = search needs
 
 define-requires : tie.Need-define-requires Inv-loop μ-loop
-define-requires c κs = omega (arith, c .before .before .before .before .before .before .before .pre (getD (now (c .before .before .before .before .before .before .before .args .literals)) (c .before .before .before .before .loop .i) 0) (In-getD (now (c .before .before .before .before .before .before .before .args .literals)) (c .before .before .before .before .loop .i) 0 (c .before .before .before .loop-test .taken)), ap (λ (y : Lit). y .0) (c .from-code .ensures))
+define-requires c κs = search needs
 
 enum-known-again : tie.Need-enum-known-again Inv-loop μ-loop
 enum-known-again c = search needs

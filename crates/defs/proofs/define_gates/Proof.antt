@@ -1,0 +1,90 @@
+-- `define_gates` meets its contract: what is left to define falls by one gate a turn; gate k's output is word 3k. Assumes nothing.
+use borrow.Author.Needs.{needs}
+use Rattle.defs.proofs.define_gates.Statement.{statement}
+use Rattle.defs.proofs.define_gates.Tie as tie
+use native.Mathlib.Omega.{arith}
+use denote.Ref.{now}
+use Prim.Native.Nat.{_≤_, _-_, _*_, _/_}
+use mathlib.Core.Path.{_≡_, sym, ap, _∙_}
+use Rattle.lit.specs.declared.Lit.{Lit}
+use lib.ListN.{length, getD, drop}
+use Rattle.defs.proofs.Definitions.{gates-on, gates-again, gates-end}
+use Rattle.circuit.specs.Outcome.{gatesOf}
+use Rattle.defs.specs.Define.{defineGates}
+
+abbrev Inv-loop : tie.InvT-loop
+Inv-loop table₀ gates n k₀ table k = (k ≤ length gates / 3) × (length table ≡ length table₀) × (defineGates table₀ (gatesOf gates) 0 ≡ defineGates table (drop k (gatesOf gates)) k)
+
+abbrev μ-loop : tie.MeasureT-loop
+μ-loop table₀ gates n k₀ table k = length gates / 3 - k
+
+loop-holds : tie.Need-loop-holds Inv-loop μ-loop
+loop-holds c = search needs
+
+mul-from-code : tie.Need-mul-from-code Inv-loop μ-loop
+mul-from-code c = search needs
+
+mul-from-code-2 : tie.Need-mul-from-code-2 Inv-loop μ-loop
+mul-from-code-2 c = search needs
+
+shared-slice-read-from-code : tie.Need-shared-slice-read-from-code Inv-loop μ-loop
+shared-slice-read-from-code c = search needs
+
+from-code-requires : tie.Need-from-code-requires Inv-loop μ-loop
+from-code-requires c κs = search needs
+
+mark-of-requires : tie.Need-mark-of-requires Inv-loop μ-loop
+mark-of-requires c κs = search needs
+
+define-requires : tie.Need-define-requires Inv-loop μ-loop
+define-requires c κs = search needs
+
+enum-known-again : tie.Need-enum-known-again Inv-loop μ-loop
+enum-known-again c = search needs
+
+same-length : tie.Need-same-length Inv-loop μ-loop
+same-length c = (cc)
+
+returns : tie.Need-returns Inv-loop μ-loop
+returns c = gates-again _ (now (c .before .before .before .before .before .before .before .before .before .before .before .before .before .before .args .gates)) _ (c .before .before .before .before .before .before .before .before .before .before .before .loop .k) _ _ _ (omega arith) (c .before .before .before .before .before .before .before .from-code .ensures) (c .before .before .before .before .before .before .mark-of .ensures) (c .before .before .before .before .before .define .ensures) _ (c .before .again .given .1) ∙ sym (c .before .before .before .before .before .before .before .before .before .before .before .loop .inv .2)
+
+enum-told : tie.Need-enum-told Inv-loop μ-loop
+enum-told c = search needs
+
+add-k : tie.Need-add-k Inv-loop μ-loop
+add-k c = search needs
+
+loop-less : tie.Need-loop-less Inv-loop μ-loop
+loop-less c = search needs
+
+loop-again : tie.Need-loop-again Inv-loop μ-loop
+loop-again c = (omega arith, (cc), c .before .before .before .before .before .before .before .before .before .before .loop .inv .2 ∙ gates-on _ (now (c .before .before .before .before .before .before .before .before .before .before .before .before .before .args .gates)) _ (c .before .before .before .before .before .before .before .before .before .before .loop .k) _ _ _ (omega arith) (c .before .before .before .before .before .before .from-code .ensures) (c .before .before .before .before .before .mark-of .ensures) (c .before .before .before .before .define .ensures) (c .enum-told .given .1))
+
+same-length-2 : tie.Need-same-length-2 Inv-loop μ-loop
+same-length-2 c = search needs
+
+returns-2 : tie.Need-returns-2 Inv-loop μ-loop
+returns-2 c = gates-end _ (now (c .before .before .before .before .args .gates)) (c .before .loop .k) (omega arith) ∙ sym (c .before .loop .inv .2)
+
+pub define-gates-spec : {M : Type 1} → statement M
+define-gates-spec =
+    tie.close
+    (tie.spec
+    Inv-loop
+    μ-loop
+    loop-holds
+    mul-from-code
+    mul-from-code-2
+    shared-slice-read-from-code
+    from-code-requires
+    mark-of-requires
+    define-requires
+    enum-known-again
+    same-length
+    returns
+    enum-told
+    add-k
+    loop-less
+    loop-again
+    same-length-2
+    returns-2)
