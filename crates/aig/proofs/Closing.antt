@@ -23,12 +23,13 @@ use Rattle.circuit.proofs.Invariant.{flipped-below}
 use Rattle.circuit.proofs.Machine.{FrameOk, gate-fits}
 use Rattle.circuit.proofs.Words.{gateAt}
 use Rattle.aig.specs.declared.shape.Shape.{Shape}
-use Rattle.aig.specs.declared.fold.Pair.{Pair}
+use Rattle.fold.specs.declared.Pair.{Pair}
 use Rattle.aig.specs.declared.table.GateNumber.the-variants.{Number, Nothing}
 use Rattle.aig.specs.declared.walk.Walk.{Walk}
 use Rattle.aig.specs.declared.walk.State.the-variants.{Second, Return, Stopped}
 use Rattle.aig.specs.Table as table
-use Rattle.aig.specs.Already.{largerFirst, alreadyOf, alreadyIn}
+use Rattle.fold.specs.Fold.{largerFirst, alreadyOf}
+use Rattle.aig.specs.Already.{alreadyIn}
 use Rattle.aig.specs.Settle.{Left, numbers, settled, CanSettle}
 use Rattle.aig.specs.Going.{netOf, topOf, Ground, On, Going}
 use Rattle.aig.specs.Turns.{toGo, Onward}

@@ -11,9 +11,9 @@ use Rattle.circuit.specs.Walk.{Pair, firstCode, madeBefore}
 use Rattle.circuit.specs.Outcome.{pairWords, zeros}
 use Rattle.circuit.proofs.Words.{pairs-length, pairs-smaller}
 use Rattle.aig.specs.declared.shape.Shape.{Shape}
-use Rattle.aig.specs.declared.fold.Already.the-variants.{Code, New}
+use Rattle.fold.specs.declared.Already.the-variants.{Code, New}
 use Rattle.aig.specs.Layout.{headsAt, nextsAt, headsOf, nextsOf}
-use Rattle.aig.specs.Already.{alreadyOf}
+use Rattle.fold.specs.Fold.{alreadyOf}
 use Rattle.aig.specs.Store.{smallerAt, codeAt, MadeIn}
 use Rattle.aig.proofs.Parts.{part-at, part-length}
 use Rattle.aig.proofs.Chained.{smallerOf, Sought, sought-start, sought-hit, sought-less, sought-on, sought-end}

@@ -16,13 +16,13 @@ use Rattle.circuit.specs.Machine.{Frame}
 use Rattle.circuit.specs.Outcome.{gatesOf, pairWords, zeros}
 use Rattle.circuit.proofs.Words.{pairs-length, pairs-snoc}
 use Rattle.aig.specs.declared.shape.Shape.{Shape}
-use Rattle.aig.specs.declared.fold.Pair.{Pair}
+use Rattle.fold.specs.declared.Pair.{Pair}
 use Rattle.aig.specs.declared.walk.Walk.{Walk}
 use Rattle.aig.specs.declared.walk.State.the-variants.{Return}
 use Rattle.aig.specs.Table.{Tabled}
 use Rattle.aig.specs.Layout.{headsAt, nextsAt, stackAt, tableOf, headsOf, nextsOf, stackOf}
 use Rattle.aig.specs.Chains.{Chains, linked}
-use Rattle.aig.specs.Already.{alreadyOf}
+use Rattle.fold.specs.Fold.{alreadyOf}
 use Rattle.aig.specs.Store.{withGate, MadeIn}
 use Rattle.aig.specs.Settle.{Left, numbers, linkedIf, settled}
 use Rattle.aig.specs.Going.{Holds, Stacked}

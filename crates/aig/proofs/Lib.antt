@@ -7,7 +7,6 @@ pub mod Fronts
 pub mod Tabling
 pub mod Concluding
 pub mod Parts
-pub mod Folds
 pub mod Accessors
 pub mod Chained
 pub mod Finding

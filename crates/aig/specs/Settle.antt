@@ -6,9 +6,9 @@ use Rattle.lit.specs.declared.Lit.{Lit}
 use Rattle.circuit.specs.Map.{store}
 use Rattle.circuit.specs.Walk as walk
 use Rattle.aig.specs.declared.shape.Shape.{Shape}
-use Rattle.aig.specs.declared.fold.Pair.{Pair}
-use Rattle.aig.specs.declared.fold.Already.{Already}
-use Rattle.aig.specs.declared.fold.Already.the-variants.{Code, New}
+use Rattle.fold.specs.declared.Pair.{Pair}
+use Rattle.fold.specs.declared.Already.{Already}
+use Rattle.fold.specs.declared.Already.the-variants.{Code, New}
 use Rattle.aig.specs.declared.walk.Walk.{Walk}
 use Rattle.aig.specs.declared.walk.State.{State}
 use Rattle.aig.specs.declared.walk.State.the-variants.{Return}

@@ -9,7 +9,7 @@ use Rattle.lit.specs.declared.Lit.{Lit}
 use Rattle.circuit.specs.Walk as walk
 use Rattle.circuit.specs.Outcome.{pairWords, zeros}
 use Rattle.aig.specs.declared.shape.Shape.{Shape}
-use Rattle.aig.specs.declared.fold.Pair.{Pair}
+use Rattle.fold.specs.declared.Pair.{Pair}
 use Rattle.aig.specs.Layout.{Room, headsOf, nextsOf}
 use Rattle.aig.specs.Chains.{Chains}
 

@@ -2,7 +2,6 @@
 mod chains;
 mod fit;
 mod flat;
-mod fold;
 mod images;
 mod order;
 mod shape;

@@ -3,7 +3,7 @@ ghost use mathlib.Core.Path.{_≡_};
 ghost use Prim.Native.Nat.{_+_, _*_, _<_};
 ghost use lib.ListN.{length, getD};
 ghost use Rattle.aig.specs.Store.{smallerAt, withGate};
-use crate::fold::Pair;
+use fold::Pair;
 
 // The smaller code of gate k.
 pub fn smaller_at(out: &[u32], k: usize) -> u32

@@ -6,14 +6,13 @@ ghost use mathlib.Core.List.{List};
 ghost use lib.ListN.{length};
 ghost use Rattle.circuit.specs.Walk as circuit-walk;
 ghost use Rattle.aig.specs.Layout.{Room};
-ghost use Rattle.aig.specs.Already.{alreadyOf, madeIf, alreadyIn};
+ghost use Rattle.fold.specs.Fold.{alreadyOf};
+ghost use Rattle.aig.specs.Already.{madeIf, alreadyIn};
 ghost use Rattle.aig.specs.Store.{MadeIn};
 ghost use Rattle.aig.specs.Settle.{numbers, left, appended, settled, CanSettle};
 ghost use Rattle.aig.specs.Turns.{Walking, Turns, Runs};
 use crate::chains;
 use crate::flat;
-use crate::fold::Already;
-use crate::fold::Pair;
 use crate::shape::Shape;
 use crate::stack;
 use crate::stack::Frame;
@@ -22,6 +21,8 @@ use crate::table;
 use crate::table::GateNumber;
 use circuit::Image;
 use circuit::Refusal;
+use fold::Already;
+use fold::Pair;
 use lent::map;
 use lit::Lit;
 
@@ -235,20 +236,11 @@ fn already(shape: Shape, pair: Pair, out: &[u32], scratch: &[u32]) -> Already
     requires { ⌜ (pair .larger .0 < 2 * shape .vars) × ((made : List circuit-walk.Pair) × MadeIn shape made (now out) (now scratch)) ⌝ }
     ensures { λ r. ⌜ ((made : List circuit-walk.Pair) → MadeIn shape made (now (out .entry)) (now (scratch .entry)) → r ≡ alreadyOf (alreadyIn shape made pair)) ⌝ }
 {
-    let folded = folded_if(shape.fold, pair);
+    let folded = pair.folded_if(shape.fold);
     match folded {
         Already::Code(t) => Already::Code(t),
         Already::New => found_if(shape, pair, out, scratch),
     }
-}
-
-fn folded_if(on: bool, pair: Pair) -> Already
-    ensures { λ r. ⌜ r ≡ alreadyOf (circuit-walk.foldedIf on (pair .larger .0) (pair .smaller .0)) ⌝ }
-{
-    if on {
-        return pair.folded();
-    }
-    Already::New
 }
 
 fn found_if(shape: Shape, pair: Pair, out: &[u32], scratch: &[u32]) -> Already

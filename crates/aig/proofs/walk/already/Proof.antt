@@ -2,7 +2,7 @@
 use borrow.Author.Needs.{needs}
 use Rattle.aig.proofs.walk.already.Statement.{statement}
 use Rattle.aig.proofs.walk.already.Tie as tie
-use Rattle.aig.proofs.Folds.{first-stands, second-stands}
+use Rattle.fold.proofs.Folds.{first-stands, second-stands}
 use Rattle.circuit.specs.Walk.{foldedIf}
 use Rattle.aig.specs.Already.{madeIf}
 

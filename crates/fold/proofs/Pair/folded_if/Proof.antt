@@ -1,7 +1,7 @@
--- `folded_if`: the flag decides. Assumes nothing.
+-- `Pair::folded_if`: the flag decides. Assumes nothing.
 use borrow.Author.Needs.{needs}
-use Rattle.aig.proofs.walk.folded_if.Statement.{statement}
-use Rattle.aig.proofs.walk.folded_if.Tie as tie
+use Rattle.fold.proofs.Pair.folded_if.Statement.{statement}
+use Rattle.fold.proofs.Pair.folded_if.Tie as tie
 
 folded-requires : tie.Need-folded-requires
 folded-requires c κs = search needs

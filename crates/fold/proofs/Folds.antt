@@ -10,9 +10,9 @@ use borrow.Author.Tests.{eq-eqb, ne-eqb}
 use Rattle.lit.specs.Code.{literal}
 use Rattle.lit.specs.declared.Lit.{Lit}
 use Rattle.circuit.specs.Walk.{folded, orElse}
-use Rattle.aig.specs.declared.fold.Already.{Already}
-use Rattle.aig.specs.declared.fold.Already.the-variants.{Code, New}
-use Rattle.aig.specs.Already.{largerFirst, alreadyOf}
+use Rattle.fold.specs.declared.Already.{Already}
+use Rattle.fold.specs.declared.Already.the-variants.{Code, New}
+use Rattle.fold.specs.Fold.{largerFirst, alreadyOf}
 
 pub first-larger : (x y : Lit) → y .0 ≤ x .0 → record { larger = x; smaller = y } ≡ largerFirst x y
 unfolding largerFirst

@@ -1,8 +1,8 @@
 -- `Pair::of`: of two codes the one that is not less is their maximum. Assumes nothing.
 use borrow.Author.Needs.{needs}
-use Rattle.aig.proofs.fold.Pair.of.Statement.{statement}
-use Rattle.aig.proofs.fold.Pair.of.Tie as tie
-use Rattle.aig.proofs.Folds.{first-larger, second-larger}
+use Rattle.fold.proofs.Pair.of.Statement.{statement}
+use Rattle.fold.proofs.Pair.of.Tie as tie
+use Rattle.fold.proofs.Folds.{first-larger, second-larger}
 use native.Mathlib.Omega.{arith}
 
 code-requires : tie.Need-code-requires

@@ -1,7 +1,7 @@
 // The two images that make a gate, and the codes that stand for it without one.
 ghost use mathlib.Core.Path.{_≡_};
 ghost use Rattle.circuit.specs.Walk as circuit-walk;
-ghost use Rattle.aig.specs.Already.{largerFirst, alreadyOf};
+ghost use Rattle.fold.specs.Fold.{largerFirst, alreadyOf};
 use lit::Lit;
 
 // The codes of a gate's inputs.
@@ -34,7 +34,7 @@ impl Pair {
     }
 
     // What folding makes of the gate.
-    pub fn folded(self) -> Already
+    fn folded(self) -> Already
         ensures { λ r. ⌜ r ≡ alreadyOf (circuit-walk.folded (self .larger .0) (self .smaller .0)) ⌝ }
     {
         let larger = self.larger;
@@ -49,6 +49,16 @@ impl Pair {
         }
         if lo == 1 {
             return Already::Code(larger);
+        }
+        Already::New
+    }
+
+    // The same, if folding is on.
+    pub fn folded_if(self, on: bool) -> Already
+        ensures { λ r. ⌜ r ≡ alreadyOf (circuit-walk.foldedIf on (self .larger .0) (self .smaller .0)) ⌝ }
+    {
+        if on {
+            return self.folded();
         }
         Already::New
     }
