@@ -1,20 +1,24 @@
 -- Laws of the words that accessors read and write, one for each return of the code. Assumes nothing.
 use Prim.Native.Nat.{ℕ, _+_, _*_, _-_, _/_, _%_, _<_, _≤_}
-use mathlib.Core.Path.{_≡_}
+use mathlib.Core.Path.{_≡_, sym, _∙_, ap, ap₂}
 use mathlib.Core.Logic.{_≢_}
-use mathlib.Core.Bool.{false}
+use mathlib.Core.Bool.{Bool, true, false}
 use mathlib.Core.List.{List}
 use native.Mathlib.Omega.{arith}
 use lib.Dec.{eqb}
-use lib.ListN.{getD}
+use lib.ListN.{getD, set}
 use borrow.Author.Tests.{eq-eqb, ne-eqb, lt-ltb, le-ltb}
 use Rattle.lit.specs.Code.{literal}
 use Rattle.lit.specs.declared.Lit.{Lit}
 use Rattle.aig.specs.declared.shape.Shape.{Shape}
+use Rattle.fold.specs.declared.Pair.{Pair}
 use Rattle.aig.specs.declared.stack.Frame.the-variants.{First, Second}
 use Rattle.aig.specs.declared.table.GateNumber.the-variants.{Number, Nothing}
 use Rattle.aig.specs.Table.{gateAt}
-use Rattle.aig.specs.Layout.{stackAt, stackOf}
+use Rattle.aig.specs.Layout.{headsAt, nextsAt, stackAt, stackOf}
+use Rattle.aig.specs.Chains.{linked}
+use Rattle.aig.specs.Store.{largerAt, smallerAt, withGate}
+use Rattle.aig.specs.Settle.{linkedIf}
 use Rattle.aig.specs.Stack.{inWord, middleIs}
 use Rattle.aig.proofs.Parts.{part-at}
 
@@ -48,3 +52,18 @@ no-middle ws depth c e = rw (eq-eqb _ _ e)
 pub a-middle : (s : Shape) (ws : List ℕ) (depth c : ℕ) → depth ≢ 0 → depth ≤ 2 * s .gates → eqb (getD ws (stackAt s + depth / 2) 0 / 2) c ≡ middleIs (stackOf s ws) depth c
 unfolding middleIs
 a-middle s ws depth c n h = rw (ne-eqb _ _ n, at-stack s ws (depth / 2) (omega arith))
+
+-- the chains
+module _ (s : Shape) (k hi : ℕ) (ws : List ℕ) where
+  pub linked-by : {h w : ℕ} → h ≡ hi → w ≡ k + 1 → set (set ws (nextsAt s + k) (getD ws (headsAt s + h) 0)) (headsAt s + h) w ≡ linked s k hi ws
+  linked-by e f = ap₂ (λ (x y : ℕ). set (set ws (nextsAt s + k) (getD ws (headsAt s + x) 0)) (headsAt s + x) y) e f
+
+  pub is-linked : {ws′ : List ℕ} → s .hash ≡ true → ws′ ≡ linked s k hi ws → ws′ ≡ linkedIf (s .hash) s k hi ws
+  is-linked h e = e ∙ ap (λ (b : Bool). linkedIf b s k hi ws) (sym h)
+
+  pub not-linked : s .hash ≡ false → ws ≡ linkedIf (s .hash) s k hi ws
+  not-linked h = ap (λ (b : Bool). linkedIf b s k hi ws) (sym h)
+
+-- the gates made
+pub gate-by : (o : List ℕ) (k : ℕ) (p : Pair) {x y : ℕ} → x ≡ p .larger .0 → y ≡ p .smaller .0 → set (set o (largerAt k) x) (smallerAt k) y ≡ withGate o k p
+gate-by o k p e f = ap₂ (λ (x y : ℕ). set (set o (largerAt k) x) (smallerAt k) y) e f

@@ -1,6 +1,6 @@
 -- The search for a gate made, on the lent words. Assumes nothing.
 use Prim.Native.Nat.{ℕ, _+_, _-_, _*_, _<_}
-use mathlib.Core.Path.{_≡_, sym, _∙_, ap, subst}
+use mathlib.Core.Path.{_≡_, sym, _∙_, ap, ap₂, subst}
 use mathlib.Core.Logic.{_≢_}
 use mathlib.Core.Bool.{true}
 use mathlib.Core.List.{List}
@@ -40,8 +40,10 @@ module _ (s : Shape) (made : List Pair) (out scratch : List ℕ) (m : MadeIn s m
     abbrev pub Seeks : ℕ → Type 0
     Seeks k = Sought made (firstCode (s .sources)) hi lo k
 
-    pub seek-start : (k : ℕ) → hi < 2 * s .vars → k ≡ getD scratch (s .vars + hi) 0 → Seeks k
-    seek-start k h e =
+    -- x and y are the pair's codes
+    pub seek-start : (k : ℕ) {x : ℕ} → hi ≡ x → x < 2 * s .vars → k ≡ getD scratch (s .vars + hi) 0 → Seeks k
+    seek-start k i x-low e =
+        let h : hi < 2 * s .vars = omega arith in
         subst Seeks (part-at (headsAt s) (2 * s .vars) scratch hi h ∙ sym e)
         (sought-start made (firstCode (s .sources)) hi lo (headsOf s scratch) (nextsOf s scratch) (m .chains on)
         (omega (arith, part-length (headsAt s) (2 * s .vars) scratch (omega (arith, m .room .long)))))
@@ -53,10 +55,12 @@ module _ (s : Shape) (made : List Pair) (out scratch : List ℕ) (m : MadeIn s m
       pub seek-inside : smallerAt (k - 1) < length out
       seek-inside = omega (arith, out-length, seek-below, m .fits)
 
-      pub seek-hit : (t : Lit) → getD out (smallerAt (k - 1)) 0 ≡ lo → t ≡ codeAt s (k - 1) → Code t ≡ alreadyOf (madeBefore made (firstCode (s .sources)) hi lo)
-      seek-hit t e c =
+      pub seek-hit : (t : Lit) {x y : ℕ} → hi ≡ x → lo ≡ y → getD out (smallerAt (k - 1)) 0 ≡ lo → t ≡ codeAt s (k - 1)
+          → Code t ≡ alreadyOf (madeBefore made (firstCode (s .sources)) x y)
+      seek-hit t i j e c =
           ap Code c
           ∙ ap alreadyOf (sym (sought-hit made (firstCode (s .sources)) hi lo k q n (sym (smaller-there (k - 1) seek-below) ∙ e)))
+          ∙ ap₂ (λ (a b : ℕ). alreadyOf (madeBefore made (firstCode (s .sources)) a b)) i j
 
       next-there : getD (nextsOf s scratch) (k - 1) 0 ≡ getD scratch (nextsAt s + (k - 1)) 0
       next-there = part-at (nextsAt s) (s .gates) scratch (k - 1) (omega (arith, seek-below, m .fits))
@@ -75,5 +79,7 @@ module _ (s : Shape) (made : List Pair) (out scratch : List ℕ) (m : MadeIn s m
           (sought-on made (firstCode (s .sources)) hi lo k q n (headsOf s scratch) (nextsOf s scratch) (m .chains on)
           (λ z. f (smaller-there (k - 1) seek-below ∙ z)))
 
-    pub seek-end : (k : ℕ) → Seeks k → k ≡ 0 → New ≡ alreadyOf (madeBefore made (firstCode (s .sources)) hi lo)
-    seek-end k q e = ap alreadyOf (sym (sought-end made (firstCode (s .sources)) hi lo k q e))
+    pub seek-end : (k : ℕ) {x y : ℕ} → Seeks k → k ≡ 0 → hi ≡ x → lo ≡ y → New ≡ alreadyOf (madeBefore made (firstCode (s .sources)) x y)
+    seek-end k q e i j =
+        ap alreadyOf (sym (sought-end made (firstCode (s .sources)) hi lo k q e))
+        ∙ ap₂ (λ (a b : ℕ). alreadyOf (madeBefore made (firstCode (s .sources)) a b)) i j

@@ -17,52 +17,52 @@ abbrev μ-loop : tie.MeasureT-loop
 μ-loop shape out scratch hi lo nexts k₀ k = k
 
 code-requires : tie.Need-code-requires Inv-loop μ-loop
-code-requires c κs = search needs
+code-requires c κs = tt
 
 wide-requires : tie.Need-wide-requires Inv-loop μ-loop
-wide-requires c κs = search needs
+wide-requires c κs = tt
 
 code-requires-2 : tie.Need-code-requires-2 Inv-loop μ-loop
-code-requires-2 c κs = search needs
+code-requires-2 c κs = tt
 
 mul-nexts : tie.Need-mul-nexts Inv-loop μ-loop
-mul-nexts c = search needs
+mul-nexts c = record { fits = omega (arith, c .before .before .before .before .before .before .before .before .pre .2 .1 .room .vars) }
 
 add-wide : tie.Need-add-wide Inv-loop μ-loop
-add-wide c = search needs
+add-wide c = record { fits = omega (arith, c .before .before .before .before .before .before .before .before .before .pre .2 .1 .room .vars, c .before .before .before .before .before .before .before .before .before .pre .1, c .before .before .before .wide .ensures, c .before .before .before .before .code .ensures) }
 
 mul-wide : tie.Need-mul-wide Inv-loop μ-loop
-mul-wide c = search needs
+mul-wide c = record { fits = omega (arith, c .before .before .before .before .before .before .before .before .before .pre .2 .1 .room .vars, c .before .before .before .before .before .before .before .before .before .pre .1, c .before .before .before .wide .ensures, c .before .before .before .before .code .ensures) }
 
 shared-slice-read-wide : tie.Need-shared-slice-read-wide Inv-loop μ-loop
-shared-slice-read-wide c = search needs
+shared-slice-read-wide c = omega (arith, c .before .before .before .before .before .before .before .before .before .before .pre .2 .1 .room .long, c .before .before .before .before .before .before .before .before .before .before .pre .1, c .before .before .before .before .wide .ensures, c .before .before .before .before .before .code .ensures)
 
 wide-requires-2 : tie.Need-wide-requires-2 Inv-loop μ-loop
-wide-requires-2 c κs = search needs
+wide-requires-2 c κs = tt
 
 loop-holds : tie.Need-loop-holds Inv-loop μ-loop
 loop-holds c =
     let a = c .before .before .before .before .before .before .before .before .before .before .before .args in
-    λ made m. seek-start (a .shape) made (a .out .now) (a .scratch .now) m (c .before .before .before .before .before .before .before .before .before .before .before .pre .0) _ _ _ (omega arith) (cc)
+    λ made m. seek-start (a .shape) made (a .out .now) (a .scratch .now) m (c .before .before .before .before .before .before .before .before .before .before .before .pre .0) (c .before .before .before .before .before .wide .result) (c .before .before .before .before .code2 .result) (c .wide2 .result) (c .before .before .before .before .before .wide .ensures ∙ c .before .before .before .before .before .before .code .ensures) (c .before .before .before .before .before .before .before .before .before .before .before .pre .1) (c .wide2 .ensures)
 
 sub-j : tie.Need-sub-j Inv-loop μ-loop
-sub-j c = omega arith
+sub-j c = omega (arith, c .loop-test .taken)
 
 smaller-at-requires : tie.Need-smaller-at-requires Inv-loop μ-loop
 smaller-at-requires c κs =
     let a = c .before .before .before .before .before .before .before .before .before .before .before .before .before .args in
     let p = c .before .before .before .before .before .before .before .before .before .before .before .before .before .pre in
-    seek-inside (a .shape) (p .2 .0) (a .out .now) (a .scratch .now) (p .2 .1) (p .0) _ _ (c .before .loop .k) (c .before .loop .inv (p .2 .0) (p .2 .1)) (c .loop-test .taken)
+    seek-inside (a .shape) (p .2 .0) (a .out .now) (a .scratch .now) (p .2 .1) (p .0) (c .before .before .before .before .before .before .before .wide .result) (c .before .before .before .before .before .before .code2 .result) (c .before .loop .k) (c .before .loop .inv (p .2 .0) (p .2 .1)) (c .loop-test .taken)
 
 code-at-requires : tie.Need-code-at-requires Inv-loop μ-loop
 code-at-requires c κs =
     let p = c .before .before .before .before .before .before .before .before .before .before .before .before .before .before .before .pre in
-    search (needs, p .2 .1 .fits, c .before .before .before .loop .inv (p .2 .0) (p .2 .1) .within)
+    (omega (arith, p .2 .1 .room .few, p .2 .1 .room .vars), omega (arith, p .2 .1 .fits, p .2 .1 .room .gates, c .before .before .before .loop .inv (p .2 .0) (p .2 .1) .within))
 
 returns : tie.Need-returns Inv-loop μ-loop
 returns c =
     let a = c .before .before .before .before .before .before .before .before .before .before .before .before .before .before .before .before .args in
-    λ made m. cc (seek-hit (a .shape) made (a .out .now) (a .scratch .now) m (c .before .before .before .before .before .before .before .before .before .before .before .before .before .before .before .before .pre .0) _ _ (c .before .before .before .before .loop .k) (c .before .before .before .before .loop .inv made m) (c .before .before .before .loop-test .taken) (c .code-at .result) (sym (c .before .before .smaller-at .ensures) ∙ c .before .if1 .taken) (c .code-at .ensures))
+    λ made m. seek-hit (a .shape) made (a .out .now) (a .scratch .now) m (c .before .before .before .before .before .before .before .before .before .before .before .before .before .before .before .before .pre .0) (c .before .before .before .before .before .before .before .before .before .before .wide .result) (c .before .before .before .before .before .before .before .before .before .code2 .result) (c .before .before .before .before .loop .k) (c .before .before .before .before .loop .inv made m) (c .before .before .before .loop-test .taken) (c .code-at .result) (c .before .before .before .before .before .before .before .before .before .before .wide .ensures ∙ c .before .before .before .before .before .before .before .before .before .before .before .code .ensures) (c .before .before .before .before .before .before .before .before .before .code2 .ensures) (sym (c .before .before .smaller-at .ensures) ∙ c .before .if1 .taken) (c .code-at .ensures)
 
 add-wide-2 : tie.Need-add-wide-2 Inv-loop μ-loop
 add-wide-2 c =
@@ -80,23 +80,23 @@ shared-slice-read-wide-2 c =
     omega (arith, p .2 .1 .fits, p .2 .1 .room .long, c .before .before .before .before .loop .inv (p .2 .0) (p .2 .1) .within)
 
 wide-requires-3 : tie.Need-wide-requires-3 Inv-loop μ-loop
-wide-requires-3 c κs = search needs
+wide-requires-3 c κs = tt
 
 loop-less : tie.Need-loop-less Inv-loop μ-loop
 loop-less c =
     let a = c .before .before .before .before .before .before .before .before .before .before .before .before .before .before .before .before .before .args in
     let p = c .before .before .before .before .before .before .before .before .before .before .before .before .before .before .before .before .before .pre in
-    seek-less (a .shape) (p .2 .0) (a .out .now) (a .scratch .now) (p .2 .1) (p .0) _ _ (c .before .before .before .before .before .loop .k) (c .before .before .before .before .before .loop .inv (p .2 .0) (p .2 .1)) (c .before .before .before .before .loop-test .taken) _ (c .wide3 .ensures)
+    seek-less (a .shape) (p .2 .0) (a .out .now) (a .scratch .now) (p .2 .1) (p .0) (c .before .before .before .before .before .before .before .before .before .before .before .wide .result) (c .before .before .before .before .before .before .before .before .before .before .code2 .result) (c .before .before .before .before .before .loop .k) (c .before .before .before .before .before .loop .inv (p .2 .0) (p .2 .1)) (c .before .before .before .before .loop-test .taken) (c .wide3 .result) (c .wide3 .ensures)
 
 loop-again : tie.Need-loop-again Inv-loop μ-loop
 loop-again c =
     let a = c .before .before .before .before .before .before .before .before .before .before .before .before .before .before .before .before .before .args in
-    λ made m. seek-on (a .shape) made (a .out .now) (a .scratch .now) m (c .before .before .before .before .before .before .before .before .before .before .before .before .before .before .before .before .before .pre .0) _ _ (c .before .before .before .before .before .loop .k) (c .before .before .before .before .before .loop .inv made m) (c .before .before .before .before .loop-test .taken) _ (λ e. c .before .before .if1 .left (c .before .before .before .smaller-at .ensures ∙ e)) (c .wide3 .ensures)
+    λ made m. seek-on (a .shape) made (a .out .now) (a .scratch .now) m (c .before .before .before .before .before .before .before .before .before .before .before .before .before .before .before .before .before .pre .0) (c .before .before .before .before .before .before .before .before .before .before .before .wide .result) (c .before .before .before .before .before .before .before .before .before .before .code2 .result) (c .before .before .before .before .before .loop .k) (c .before .before .before .before .before .loop .inv made m) (c .before .before .before .before .loop-test .taken) (c .wide3 .result) (λ e. c .before .before .if1 .left (c .before .before .before .smaller-at .ensures ∙ e)) (c .wide3 .ensures)
 
 returns-2 : tie.Need-returns-2 Inv-loop μ-loop
 returns-2 c =
     let a = c .before .before .before .before .before .before .before .before .before .before .before .before .before .args in
-    λ made m. cc (seek-end (a .shape) made (a .out .now) (a .scratch .now) m (c .before .before .before .before .before .before .before .before .before .before .before .before .before .pre .0) _ _ (c .before .loop .k) (c .before .loop .inv made m) (c .loop-test .left))
+    λ made m. seek-end (a .shape) made (a .out .now) (a .scratch .now) m (c .before .before .before .before .before .before .before .before .before .before .before .before .before .pre .0) (c .before .before .before .before .before .before .before .wide .result) (c .before .before .before .before .before .before .code2 .result) (c .before .loop .k) (c .before .loop .inv made m) (c .loop-test .left) (c .before .before .before .before .before .before .before .wide .ensures ∙ c .before .before .before .before .before .before .before .before .code .ensures) (c .before .before .before .before .before .before .code2 .ensures)
 
 pub find-spec : {M : Type 1} → statement M
 find-spec =

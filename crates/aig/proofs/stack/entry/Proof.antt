@@ -1,36 +1,36 @@
 -- `stack::entry`: the word's low bit says which input is under way. Assumes nothing.
-use borrow.Author.Needs.{needs}
 use Rattle.aig.proofs.stack.entry.Statement.{statement}
 use Rattle.aig.proofs.stack.entry.Tie as tie
+use native.Mathlib.Omega.{arith}
 use Rattle.aig.proofs.Accessors.{is-first, is-second}
 
 mul-at : tie.Need-mul-at
-mul-at c = search needs
+mul-at c = record { fits = omega (arith, c .before .before .pre .0 .vars) }
 
 add-at : tie.Need-add-at
-add-at c = search needs
+add-at c = record { fits = omega (arith, c .before .before .before .pre .0 .vars, c .before .before .before .pre .0 .gates, c .before .before .before .pre .1) }
 
 add-at-2 : tie.Need-add-at-2
-add-at-2 c = search needs
+add-at-2 c = record { fits = omega (arith, c .before .before .before .pre .0 .vars, c .before .before .before .pre .0 .gates, c .before .before .before .pre .1) }
 
 mul-word : tie.Need-mul-word
-mul-word c = search needs
+mul-word c = record { fits = omega (arith, c .before .before .before .pre .0 .vars, c .before .before .before .pre .0 .gates, c .before .before .before .pre .1) }
 
 shared-slice-read-word : tie.Need-shared-slice-read-word
-shared-slice-read-word c = search needs
+shared-slice-read-word c = omega (arith, c .before .before .before .before .pre .0 .long, c .before .before .before .before .pre .1)
 
 from-code-requires : tie.Need-from-code-requires
-from-code-requires c κs = search needs
+from-code-requires c κs = tt
 
 returns : tie.Need-returns
 returns c =
     let a = c .before .before .before .before .before .before .args in
-    is-first (a .shape) (a .scratch .now) _ (c .before .before .before .before .before .before .pre .1) _ (c .if1 .taken) (cc)
+    is-first (a .shape) (a .scratch .now) (a .below) (c .before .before .before .before .before .before .pre .1) (c .before .from-code .result) (c .if1 .taken) (c .before .from-code .ensures)
 
 returns-2 : tie.Need-returns-2
 returns-2 c =
     let a = c .before .before .before .before .before .before .args in
-    is-second (a .shape) (a .scratch .now) _ (c .before .before .before .before .before .before .pre .1) _ (c .if1 .left) (cc)
+    is-second (a .shape) (a .scratch .now) (a .below) (c .before .before .before .before .before .before .pre .1) (c .before .from-code .result) (c .if1 .left) (c .before .from-code .ensures)
 
 pub entry-spec : {M : Type 1} → statement M
 entry-spec =

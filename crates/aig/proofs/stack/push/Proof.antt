@@ -1,31 +1,37 @@
 -- `stack::push`: one store. Assumes nothing.
-use borrow.Author.Needs.{needs}
 use Rattle.aig.proofs.stack.push.Statement.{statement}
 use Rattle.aig.proofs.stack.push.Tie as tie
+use native.Mathlib.Omega.{arith}
+use Prim.Native.Nat.{_+_}
+use mathlib.Core.Path.{ap}
+use lib.ListN.{set, length-set}
+use Rattle.aig.specs.Layout.{stackAt}
 
 mul-at : tie.Need-mul-at
-mul-at c = search needs
+mul-at c = record { fits = omega (arith, c .before .before .pre .0 .vars) }
 
 add-at : tie.Need-add-at
-add-at c = search needs
+add-at c = record { fits = omega (arith, c .before .before .before .pre .0 .vars, c .before .before .before .pre .0 .gates, c .before .before .before .pre .1) }
 
 add-at-2 : tie.Need-add-at-2
-add-at-2 c = search needs
+add-at-2 c = record { fits = omega (arith, c .before .before .before .pre .0 .vars, c .before .before .before .pre .0 .gates, c .before .before .before .pre .1) }
 
 word-of-requires : tie.Need-word-of-requires
-word-of-requires c κs = search needs
+word-of-requires c κs = c .before .before .before .pre .2
 
 mul-scratch : tie.Need-mul-scratch
-mul-scratch c = search needs
+mul-scratch c = record { fits = omega (arith, c .before .before .before .before .pre .0 .vars, c .before .before .before .before .pre .0 .gates, c .before .before .before .before .pre .1) }
 
 slice-write-scratch : tie.Need-slice-write-scratch
-slice-write-scratch c = search needs
+slice-write-scratch c = omega (arith, c .before .before .before .before .pre .0 .long, c .before .before .before .before .pre .1)
 
 same-length : tie.Need-same-length
-same-length c = search needs
+same-length c = length-set (c .before .before .before .before .args .scratch .now) (stackAt (c .before .before .before .before .args .shape) + c .before .before .before .before .args .depth) (c .word-of .result)
 
 returns : tie.Need-returns
-returns c = cc
+returns c =
+    let a = c .before .before .before .before .args in
+    ap (set (a .scratch .now) (stackAt (a .shape) + a .depth)) (c .word-of .ensures)
 
 pub push-spec : {M : Type 1} → statement M
 push-spec =

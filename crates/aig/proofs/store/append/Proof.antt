@@ -2,9 +2,11 @@
 use borrow.Author.Needs.{needs}
 use Rattle.aig.proofs.store.append.Statement.{statement}
 use Rattle.aig.proofs.store.append.Tie as tie
+use lib.ListN.{length-set}
+use Rattle.aig.proofs.Accessors.{gate-by}
 
 code-requires : tie.Need-code-requires
-code-requires c κs = search needs
+code-requires c κs = tt
 
 mul-out : tie.Need-mul-out
 mul-out c = search needs
@@ -16,7 +18,7 @@ slice-write-out : tie.Need-slice-write-out
 slice-write-out c = search needs
 
 code-requires-2 : tie.Need-code-requires-2
-code-requires-2 c κs = search needs
+code-requires-2 c κs = tt
 
 mul-out-3 : tie.Need-mul-out-3
 mul-out-3 c = search needs
@@ -31,10 +33,12 @@ slice-write-out-2 : tie.Need-slice-write-out-2
 slice-write-out-2 c = search needs
 
 same-length : tie.Need-same-length
-same-length c = search needs
+same-length c = simp length-set
 
 returns : tie.Need-returns
-returns c = cc
+returns c =
+    let a = c .before .before .before .before .before .args in
+    gate-by (a .out .now) (a .made) (a .pair) (c .before .code .ensures) (c .code2 .ensures)
 
 pub append-spec : {M : Type 1} → statement M
 append-spec =

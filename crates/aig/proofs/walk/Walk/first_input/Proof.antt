@@ -1,9 +1,8 @@
 -- `Walk::first_input`: the machine's step from a first input, with its entry's word stored anew. Assumes nothing.
-use borrow.Author.Needs.{needs}
 use Rattle.aig.proofs.walk.Walk.first_input.Statement.{statement}
 use Rattle.aig.proofs.walk.Walk.first_input.Tie as tie
 use native.Mathlib.Omega.{arith}
-use mathlib.Core.Path.{sym, _∙_}
+use mathlib.Core.Path.{refl, sym, _∙_}
 use Rattle.aig.proofs.Transferring.{first-none, first-on, as-transfer}
 use Rattle.aig.proofs.Reading.{first-reads, first-depth}
 
@@ -11,16 +10,16 @@ gate-of-requires : tie.Need-gate-of-requires
 gate-of-requires c κs = first-reads (c .before .before .before .pre .2) .inTable
 
 enum-known-number : tie.Need-enum-known-number
-enum-known-number c = search needs
+enum-known-number c = c .match .keys1
 
 enum-told : tie.Need-enum-told
-enum-told c = search needs
+enum-told c = c .match .keys2
 
 same-length : tie.Need-same-length
-same-length c = search needs
+same-length c = refl
 
 returns : tie.Need-returns
-returns c = λ map out sources o k. first-none k (cc)
+returns c = λ map out sources o k. first-none k (sym (c .before .before .gate-of .ensures) ∙ c .enum-told .given .1)
 
 push-requires : tie.Need-push-requires
 push-requires c κs =
@@ -36,7 +35,7 @@ second-of-requires : tie.Need-second-of-requires
 second-of-requires c κs = first-reads (c .before .before .before .before .before .before .before .before .before .before .before .before .pre .2) .number _ (sym (c .before .before .before .before .before .before .before .before .gate-of .ensures) ∙ c .before .before .before .before .before .before .number .given .1)
 
 same-length-2 : tie.Need-same-length-2
-same-length-2 c = search needs
+same-length-2 c = c .before .before .before .before .push .kept .0
 
 returns-2 : tie.Need-returns-2
 returns-2 c = λ map out sources o k. as-transfer (c .before .deeper .ensures) (c .second-of .ensures) (c .before .before .before .before .push .ensures) (first-on k (sym (c .before .before .before .before .before .before .before .before .before .gate-of .ensures) ∙ c .before .before .before .before .before .before .before .number .given .1))

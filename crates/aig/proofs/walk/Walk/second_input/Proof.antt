@@ -1,8 +1,7 @@
 -- `Walk::second_input`: both images are there, since the entry's inputs have been walked; so settling is the machine's step. Assumes nothing.
-use borrow.Author.Needs.{needs}
 use Rattle.aig.proofs.walk.Walk.second_input.Statement.{statement}
 use Rattle.aig.proofs.walk.Walk.second_input.Tie as tie
-use mathlib.Core.Path.{sym, _∙_}
+use mathlib.Core.Path.{refl, sym, _∙_}
 use Rattle.aig.specs.Settle.{left}
 use Rattle.aig.proofs.Closing.{second-none, second-reads, first-is-there, second-is-there, can-settle, second-settled}
 use Rattle.aig.proofs.Reading.{second-place}
@@ -11,76 +10,76 @@ gate-of-requires : tie.Need-gate-of-requires
 gate-of-requires c κs = second-place (c .before .before .before .before .before .pre)
 
 enum-known-number : tie.Need-enum-known-number
-enum-known-number c = search needs
+enum-known-number c = c .match .keys1
 
 enum-told : tie.Need-enum-told
-enum-told c = search needs
+enum-told c = c .match .keys2
 
 same-length : tie.Need-same-length
-same-length c = search needs
+same-length c = refl
 
 returns : tie.Need-returns
-returns c = λ sources o k. second-none k (cc)
+returns c = λ sources o k. second-none k (sym (c .before .before .gate-of .ensures) ∙ c .enum-told .given .1)
 
 first-of-requires : tie.Need-first-of-requires
 first-of-requires c κs = second-reads (c .before .before .before .before .before .before .before .before .before .pre .going) (sym (c .before .before .before .gate-of .ensures) ∙ c .before .number .given .1)
 
 image-requires : tie.Need-image-requires
-image-requires c κs = search needs
+image-requires c κs = tt
 
 enum-known-image : tie.Need-enum-known-image
-enum-known-image c = search needs
+enum-known-image c = c .match2 .keys1
 
 enum-told-2 : tie.Need-enum-told-2
-enum-told-2 c = search needs
+enum-told-2 c = c .match2 .keys2
 
 same-length-2 : tie.Need-same-length-2
-same-length-2 c = search needs
+same-length-2 c = refl
 
 same-length-3 : tie.Need-same-length-3
-same-length-3 c = search needs
+same-length-3 c = refl
 
 returns-2 : tie.Need-returns-2
-returns-2 c = λ sources o k. absurd (first-is-there k (sym (c .before .before .before .before .before .before .before .before .gate-of .ensures) ∙ c .before .before .before .before .before .before .number .given .1) (c .before .before .before .before .first-of .ensures) (c .before .before .image .ensures) (cc))
+returns-2 c = λ sources o k. absurd (first-is-there k (sym (c .before .before .before .before .before .before .before .before .gate-of .ensures) ∙ c .before .before .before .before .before .before .number .given .1) (c .before .before .before .before .first-of .ensures) (c .before .before .image .ensures) (c .enum-told2 .given .1))
 
 second-of-requires : tie.Need-second-of-requires
 second-of-requires c κs = second-reads (c .before .before .before .before .before .before .before .before .before .before .before .before .before .before .before .pre .going) (sym (c .before .before .before .before .before .before .before .before .before .gate-of .ensures) ∙ c .before .before .before .before .before .before .before .number .given .1)
 
 image-requires-2 : tie.Need-image-requires-2
-image-requires-2 c κs = search needs
+image-requires-2 c κs = tt
 
 enum-known-image-2 : tie.Need-enum-known-image-2
-enum-known-image-2 c = search needs
+enum-known-image-2 c = c .match3 .keys1
 
 enum-told-3 : tie.Need-enum-told-3
-enum-told-3 c = search needs
+enum-told-3 c = c .match3 .keys2
 
 same-length-4 : tie.Need-same-length-4
-same-length-4 c = search needs
+same-length-4 c = refl
 
 same-length-5 : tie.Need-same-length-5
-same-length-5 c = search needs
+same-length-5 c = refl
 
 returns-3 : tie.Need-returns-3
-returns-3 c = λ sources o k. absurd (second-is-there k (sym (c .before .before .before .before .before .before .before .before .before .before .before .before .before .before .gate-of .ensures) ∙ c .before .before .before .before .before .before .before .before .before .before .before .before .number .given .1) (c .before .before .before .before .second-of .ensures) (c .before .before .image3 .ensures) (cc))
+returns-3 c = λ sources o k. absurd (second-is-there k (sym (c .before .before .before .before .before .before .before .before .before .before .before .before .before .before .gate-of .ensures) ∙ c .before .before .before .before .before .before .before .before .before .before .before .before .number .given .1) (c .before .before .before .before .second-of .ensures) (c .before .before .image3 .ensures) (c .enum-told3 .given .1))
 
 output-of-requires : tie.Need-output-of-requires
 output-of-requires c κs = second-reads (c .before .before .before .before .before .before .before .before .before .before .before .before .before .before .before .before .before .before .before .before .before .pre .going) (sym (c .before .before .before .before .before .before .before .before .before .before .before .before .before .before .before .gate-of .ensures) ∙ c .before .before .before .before .before .before .before .before .before .before .before .before .before .number .given .1)
 
 of-requires : tie.Need-of-requires
-of-requires c κs = search needs
+of-requires c κs = tt
 
 settle-requires : tie.Need-settle-requires
 settle-requires c κs = can-settle (c .before .before .before .before .before .before .before .before .before .before .before .before .before .before .before .before .before .before .before .before .before .before .before .before .before .before .pre .going) (sym (c .before .before .before .before .before .before .before .before .before .before .before .before .before .before .before .before .before .before .before .before .gate-of .ensures) ∙ c .before .before .before .before .before .before .before .before .before .before .before .before .before .before .before .before .before .before .number .given .1) (c .before .before .before .before .before .before .before .before .before .before .before .before .before .before .before .before .first-of .ensures) (c .before .before .before .before .before .before .before .before .before .before .second-of .ensures) (c .before .before .before .before .before .before .before .before .before .before .before .before .before .before .image .ensures) (c .before .before .before .before .before .before .before .before .image3 .ensures) (c .before .before .before .before .before .before .before .before .before .before .before .before .image2 .given .1) (c .before .before .before .before .before .before .image4 .given .1) (c .before .before .before .of .ensures)
 
 same-length-6 : tie.Need-same-length-6
-same-length-6 c = search needs
+same-length-6 c = c .before .before .before .before .before .before .settle .kept .1 .1 .1 .1 .0
 
 same-length-7 : tie.Need-same-length-7
-same-length-7 c = search needs
+same-length-7 c = c .before .before .before .before .before .before .settle .kept .1 .1 .1 .1 .1 .0
 
 same-length-8 : tie.Need-same-length-8
-same-length-8 c = search needs
+same-length-8 c = c .before .before .before .before .before .before .settle .kept .1 .1 .1 .1 .1 .1 .0
 
 returns-4 : tie.Need-returns-4
 returns-4 c = λ sources o k. second-settled k (sym (c .before .before .before .before .before .before .before .before .before .before .before .before .before .before .before .before .before .before .before .before .before .before .before .before .before .before .before .gate-of .ensures) ∙ c .before .before .before .before .before .before .before .before .before .before .before .before .before .before .before .before .before .before .before .before .before .before .before .before .before .number .given .1) (c .before .before .before .before .before .before .before .before .before .before .before .before .before .before .before .before .before .before .before .before .before .before .before .first-of .ensures) (c .before .before .before .before .before .before .before .before .before .before .before .before .before .before .before .before .before .second-of .ensures) (c .before .before .before .before .before .before .before .before .before .before .before .before .before .before .before .before .before .before .before .before .before .image .ensures) (c .before .before .before .before .before .before .before .before .before .before .before .before .before .before .before .image3 .ensures) (c .before .before .before .before .before .before .before .before .before .before .before .before .before .before .before .before .before .before .before .image2 .given .1) (c .before .before .before .before .before .before .before .before .before .before .before .before .before .image4 .given .1) (c .before .before .before .before .before .before .before .before .before .before .of .ensures) (left _ _ _ _) (c .before .before .before .before .before .before .before .before .before .before .before .output-of .ensures) (c .before .before .before .before .before .before .settle .ensures (k .goes .work .made) (k .goes .holds .gatesMade))

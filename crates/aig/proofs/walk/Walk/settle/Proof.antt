@@ -1,21 +1,24 @@
 -- `Walk::settle`: what stands for the gate already decides between two calls. Assumes nothing.
-use borrow.Author.Needs.{needs}
 use Rattle.aig.proofs.walk.Walk.settle.Statement.{statement}
 use Rattle.aig.proofs.walk.Walk.settle.Tie as tie
+use mathlib.Core.Path.{refl}
+use Rattle.aig.specs.Settle.{left}
 use Rattle.aig.proofs.Settling.{settled-by-code, settled-by-gate}
 use Rattle.aig.proofs.Finding.{out-length}
 
 already-requires : tie.Need-already-requires
-already-requires c κs = search needs
+already-requires c κs =
+    let p = c .before .before .before .before .before .pre in
+    (p .larger, (p .made, p .madeIn))
 
 enum-known-already : tie.Need-enum-known-already
-enum-known-already c = search needs
+enum-known-already c = c .match .keys1
 
 insert-requires : tie.Need-insert-requires
-insert-requires c κs = search needs
+insert-requires c κs = tt
 
 enum-told : tie.Need-enum-told
-enum-told c = search needs
+enum-told c = c .match .keys2
 
 append-requires : tie.Need-append-requires
 append-requires c κs =
@@ -23,13 +26,13 @@ append-requires c κs =
     (p .madeIn .room, out-length _ _ _ _ (p .madeIn), p .fits, p .larger)
 
 same-length : tie.Need-same-length
-same-length c = search needs
+same-length c = c .before .before .insert .kept .0
 
 same-length-2 : tie.Need-same-length-2
-same-length-2 c = search needs
+same-length-2 c = refl
 
 same-length-3 : tie.Need-same-length-3
-same-length-3 c = search needs
+same-length-3 c = refl
 
 returns : tie.Need-returns
 returns c =
@@ -37,18 +40,19 @@ returns c =
     λ made m. settled-by-code (a .shape) (a .self) (a .output) (a .pair) (a .map .now) (a .out .now) (a .scratch .now) (c .before .before .before .before .before .before .before .already .result) _ _ _ (c .before .before .before .before .before .already2 .given .1) (c .before .before .before .before .before .before .before .already .ensures made m) (c .before .before .insert .ensures)
 
 same-length-4 : tie.Need-same-length-4
-same-length-4 c = search needs
+same-length-4 c = c .before .before .before .before .before .before .append .kept .1 .1 .1 .1 .0
 
 same-length-5 : tie.Need-same-length-5
-same-length-5 c = search needs
+same-length-5 c = c .before .before .before .before .before .before .append .kept .1 .1 .1 .1 .1 .0
 
 same-length-6 : tie.Need-same-length-6
-same-length-6 c = search needs
+same-length-6 c = c .before .before .before .before .before .before .append .kept .1 .1 .1 .1 .1 .1 .0
 
 returns-2 : tie.Need-returns-2
 returns-2 c =
     let a = c .before .before .before .before .before .before .before .before .before .before .before .before .before .before .before .before .before .before .args in
-    λ made m. settled-by-gate (a .shape) (a .self) (a .output) (a .pair) (a .map .now) (a .out .now) (a .scratch .now) (c .before .before .before .before .before .before .before .before .before .before .before .before .already .result) _ _ (cc) (c .before .before .before .before .before .before .before .before .before .before .before .before .already .ensures made m) (c .before .before .before .before .before .before .append .ensures)
+    let w = c .before .before .before .before .before .before .append .last .1 .1 .1 .1 in
+    λ made m. settled-by-gate (a .shape) (a .self) (a .output) (a .pair) (a .map .now) (a .out .now) (a .scratch .now) (c .before .before .before .before .before .before .before .before .before .before .before .before .already .result) _ (left (c .before .before .before .before .before .before .append .result) (w .0) (w .1 .0) (w .1 .1 .0)) (c .before .before .before .before .before .before .before .before .before .before .enum-told .given .1) (c .before .before .before .before .before .before .before .before .before .before .before .before .already .ensures made m) (c .before .before .before .before .before .before .append .ensures)
 
 pub settle-spec : {M : Type 1} → statement M
 settle-spec =
