@@ -1,5 +1,4 @@
 -- `lookup` meets its contract: a variable over the largest has no image; else the map decides. Assumes nothing.
-use borrow.Author.Needs.{needs}
 use Rattle.aig.proofs.lookup.Statement.{statement}
 use Rattle.aig.proofs.lookup.Tie as tie
 use native.Mathlib.Omega.{arith}
@@ -9,19 +8,19 @@ use denote.Ref.{now}
 use Rattle.lent.proofs.Entries.{lookup-above, lookup-within}
 
 index-requires : tie.Need-index-requires
-index-requires c κs = search needs
+index-requires c κs = tt
 
 var-requires : tie.Need-var-requires
-var-requires c κs = search needs
+var-requires c κs = tt
 
 index-requires-2 : tie.Need-index-requires-2
-index-requires-2 c κs = search needs
+index-requires-2 c κs = tt
 
 returns : tie.Need-returns
 returns c = lookup-above (c .before .before .before .before .before .args .top .0) (now (c .before .before .before .before .before .args .map)) (c .before .before .before .before .before .args .lit .0) (omega (arith, c .before .before .before .index .ensures, c .before .index2 .ensures, ap (λ (v : Var). v .0) (c .before .before .var .ensures)))
 
 image-requires : tie.Need-image-requires
-image-requires c κs = search needs
+image-requires c κs = tt
 
 returns-2 : tie.Need-returns-2
 returns-2 c = c .image .ensures ∙ lookup-within (c .before .before .before .before .before .before .args .top .0) (now (c .before .before .before .before .before .before .args .map)) (c .before .before .before .before .before .before .args .lit .0) (omega (arith, c .before .before .before .before .index .ensures, c .before .before .index2 .ensures, ap (λ (v : Var). v .0) (c .before .before .before .var .ensures)))

@@ -10,10 +10,10 @@ use Rattle.circuit.specs.Outcome.{lentOf}
 use Rattle.aig.proofs.Fronts.{mapFront, nextsFront, rootsFront, gatesFront, scratchFront, exact, spread, spreads}
 
 index-requires : tie.Need-index-requires
-index-requires c κs = search needs
+index-requires c κs = tt
 
 wide-requires : tie.Need-wide-requires
-wide-requires c κs = search needs
+wide-requires c κs = tt
 
 add-n : tie.Need-add-n
 add-n c = search needs

@@ -19,7 +19,7 @@ word-requires-2 : tie.Need-word-requires-2
 word-requires-2 c κs = search needs
 
 from-index-requires : tie.Need-from-index-requires
-from-index-requires c κs = search needs
+from-index-requires c κs = tt
 
 returns : tie.Need-returns
 returns c = ap₂ {C = Answer} (λ (i : ℕ) (v : Var). Renumbered (record { made = i; top = v })) (c .before .word2 .ensures) (c .from-index .ensures ∙ ap variable (c .before .before .word .ensures))

@@ -20,7 +20,7 @@ word-requires : tie.Need-word-requires
 word-requires c κs = search needs
 
 from-code-requires : tie.Need-from-code-requires
-from-code-requires c κs = search needs
+from-code-requires c κs = tt
 
 returns : tie.Need-returns
 unfolding firstCode

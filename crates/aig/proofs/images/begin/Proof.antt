@@ -7,16 +7,16 @@ use lib.ListN.{length}
 use Rattle.lent.proofs.Entries.{started}
 
 fill-requires : tie.Need-fill-requires
-fill-requires c κs = search needs
+fill-requires c κs = tt
 
 from-code-requires : tie.Need-from-code-requires
-from-code-requires c κs = search needs
+from-code-requires c κs = tt
 
 from-code-requires-2 : tie.Need-from-code-requires-2
-from-code-requires-2 c κs = search needs
+from-code-requires-2 c κs = tt
 
 insert-requires : tie.Need-insert-requires
-insert-requires c κs = search needs
+insert-requires c κs = tt
 
 store-from-requires : tie.Need-store-from-requires
 store-from-requires c κs = search needs

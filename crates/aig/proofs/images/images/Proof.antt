@@ -26,13 +26,13 @@ shared-slice-read-from-code : tie.Need-shared-slice-read-from-code Inv-loop μ-l
 shared-slice-read-from-code c = search needs
 
 from-code-requires : tie.Need-from-code-requires Inv-loop μ-loop
-from-code-requires c κs = search needs
+from-code-requires c κs = tt
 
 image-requires : tie.Need-image-requires Inv-loop μ-loop
-image-requires c κs = search needs
+image-requires c κs = tt
 
 code-of-requires : tie.Need-code-of-requires Inv-loop μ-loop
-code-of-requires c κs = search needs
+code-of-requires c κs = tt
 
 mul-out : tie.Need-mul-out Inv-loop μ-loop
 mul-out c = search needs

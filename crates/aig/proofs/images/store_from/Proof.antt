@@ -25,13 +25,13 @@ shared-slice-read-from-code : tie.Need-shared-slice-read-from-code Inv-loop μ-l
 shared-slice-read-from-code c = search needs
 
 from-code-requires : tie.Need-from-code-requires Inv-loop μ-loop
-from-code-requires c κs = search needs
+from-code-requires c κs = tt
 
 from-code-requires-2 : tie.Need-from-code-requires-2 Inv-loop μ-loop
-from-code-requires-2 c κs = search needs
+from-code-requires-2 c κs = tt
 
 insert-requires : tie.Need-insert-requires Inv-loop μ-loop
-insert-requires c κs = search needs
+insert-requires c κs = tt
 
 add-i : tie.Need-add-i Inv-loop μ-loop
 add-i c = search needs

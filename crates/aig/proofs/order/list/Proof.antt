@@ -25,16 +25,16 @@ shared-slice-read-from-code : tie.Need-shared-slice-read-from-code Inv-loop μ-l
 shared-slice-read-from-code c = search needs
 
 from-code-requires : tie.Need-from-code-requires Inv-loop μ-loop
-from-code-requires c κs = search needs
+from-code-requires c κs = tt
 
 one-requires : tie.Need-one-requires Inv-loop μ-loop
 one-requires c κs = listing-one (c .before .before .before .before .before .before .loop .inv) (c .before .before .before .before .before .loop-test .taken) (ap (λ (l : Lit). l .0) (c .before .before .before .from-code .ensures))
 
 enum-known-walked : tie.Need-enum-known-walked Inv-loop μ-loop
-enum-known-walked c = search needs
+enum-known-walked c = c .match .keys1
 
 enum-known-walked-2 : tie.Need-enum-known-walked-2 Inv-loop μ-loop
-enum-known-walked-2 c = search needs
+enum-known-walked-2 c = c .match .keys2
 
 same-length : tie.Need-same-length Inv-loop μ-loop
 same-length c = turn-map (c .before .before .before .before .before .before .before .before .before .before .before .before .before .before .before .before .loop .inv) (c .before .before .before .before .before .before .before .before .before .before .before .before .before .before .before .loop-test .taken) (ap (λ (l : Lit). l .0) (c .before .before .before .before .before .before .before .before .before .before .before .before .before .from-code .ensures)) (c .before .before .before .before .before .before .before .before .before .one .result) _ _ _ (c .before .before .before .before .before .before .before .before .before .one .ensures)

@@ -25,10 +25,10 @@ one-requires c κs =
     listing-one (c .before .before .before .before .before .before .loop .inv) (omega (arith, outputs-count (p), c .before .before .before .before .if1 .taken)) (output-is (p) _ _ (c .before .before .before .before .if1 .taken) (c .before .before .before .output-of .ensures))
 
 enum-known-walked : tie.Need-enum-known-walked Inv-loop μ-loop
-enum-known-walked c = search needs
+enum-known-walked c = c .match .keys1
 
 enum-known-walked-2 : tie.Need-enum-known-walked-2 Inv-loop μ-loop
-enum-known-walked-2 c = search needs
+enum-known-walked-2 c = c .match .keys2
 
 same-length : tie.Need-same-length Inv-loop μ-loop
 same-length c =

@@ -1,5 +1,4 @@
 -- `stack::word_of`: a literal's code is below 2 ^ 31, so its double and one more fit a word. Assumes nothing.
-use borrow.Author.Needs.{needs}
 use Rattle.aig.proofs.stack.word_of.Statement.{statement}
 use Rattle.aig.proofs.stack.word_of.Tie as tie
 use native.Mathlib.Omega.{arith}
@@ -9,19 +8,19 @@ use Rattle.aig.specs.declared.stack.Frame.{Frame}
 use Rattle.aig.specs.Stack.{frameOf}
 
 enum-known-frame : tie.Need-enum-known-frame
-enum-known-frame c = search needs
+enum-known-frame c = c .match .keys1
 
 code-requires : tie.Need-code-requires
-code-requires c κs = search needs
+code-requires c κs = tt
 
 mul-result : tie.Need-mul-result
 mul-result c = record { fits = omega (arith, subst (λ (f : Frame). frameOf f .lit < 2 ^ 31) (c .before .before .frame .given .1) (c .before .before .before .before .pre)) }
 
 enum-known-frame-2 : tie.Need-enum-known-frame-2
-enum-known-frame-2 c = search needs
+enum-known-frame-2 c = c .match .keys2
 
 code-requires-2 : tie.Need-code-requires-2
-code-requires-2 c κs = search needs
+code-requires-2 c κs = tt
 
 mul-result-2 : tie.Need-mul-result-2
 mul-result-2 c = record { fits = omega (arith, subst (λ (f : Frame). frameOf f .lit < 2 ^ 31) (c .before .before .frame2 .given .1) (c .before .before .before .before .pre)) }

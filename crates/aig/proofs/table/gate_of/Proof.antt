@@ -5,7 +5,7 @@ use Rattle.aig.proofs.table.gate_of.Tie as tie
 use Rattle.aig.proofs.Accessors.{no-gate, a-gate}
 
 place-of-requires : tie.Need-place-of-requires
-place-of-requires c κs = search needs
+place-of-requires c κs = tt
 
 mul-wide : tie.Need-mul-wide
 mul-wide c = search needs
@@ -14,7 +14,7 @@ shared-slice-read-wide : tie.Need-shared-slice-read-wide
 shared-slice-read-wide c = search needs
 
 wide-requires : tie.Need-wide-requires
-wide-requires c κs = search needs
+wide-requires c κs = tt
 
 returns : tie.Need-returns
 returns c = no-gate _ _ (c .before .before .before .place-of .result) (c .before .wide .result) (c .before .before .before .place-of .ensures) (c .before .wide .ensures) (c .if1 .taken)

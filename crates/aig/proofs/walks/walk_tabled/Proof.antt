@@ -2,12 +2,13 @@
 use borrow.Author.Needs.{needs}
 use Rattle.aig.proofs.walks.walk_tabled.Statement.{statement}
 use Rattle.aig.proofs.walks.walk_tabled.Tie as tie
+use mathlib.Core.Path.{_∙_}
 use lib.ListN.{length}
 use Rattle.aig.proofs.Tabling.{mapRoom, ready}
 use Rattle.aig.proofs.Joining.{can-walk, walks-end}
 
 fill-requires : tie.Need-fill-requires
-fill-requires c κs = search needs
+fill-requires c κs = tt
 
 begin-requires : tie.Need-begin-requires
 begin-requires c κs = mapRoom (c .before .before .before .before .before .before .before .before .before .before .before .before .before .pre .room)
@@ -19,13 +20,13 @@ walked-requires : tie.Need-walked-requires
 walked-requires c κs = can-walk (ready (c .before .before .before .before .before .before .before .before .before .before .before .before .before .before .before .before .before .before .before .pre) _ _ (c .before .before .before .before .before .begin .ensures) (c .before .before .before .before .before .before .before .before .before .fill .ensures)) _ (c .before .before .before .before .before .before .before .before .before .before .before .before .before .before .before .before .before .before .before .pre .room .mapLong)
 
 same-length : tie.Need-same-length
-same-length c = search needs
+same-length c = c .before .before .before .before .before .before .walked .kept .1 .1 .1 .1 .1 .0 ∙ c .before .before .before .before .before .before .before .before .before .before .before .before .begin .kept .0
 
 same-length-2 : tie.Need-same-length-2
-same-length-2 c = search needs
+same-length-2 c = c .before .before .before .before .before .before .walked .kept .1 .1 .1 .1 .1 .1 .0 ∙ c .before .before .before .before .before .before .before .before .before .before .before .before .before .before .before .before .fill .kept .0
 
 same-length-3 : tie.Need-same-length-3
-same-length-3 c = search needs
+same-length-3 c = c .before .before .before .before .before .before .walked .kept .1 .1 .1 .1 .1 .1 .1 .0
 
 returns : tie.Need-returns
 returns c = walks-end (ready (c .before .before .before .before .before .before .before .before .before .before .before .before .before .before .before .before .before .before .before .before .before .before .before .before .before .before .pre) _ _ (c .before .before .before .before .before .before .before .before .before .before .before .before .begin .ensures) (c .before .before .before .before .before .before .before .before .before .before .before .before .before .before .before .before .fill .ensures)) _ (c .before .before .before .before .before .before .before .before .before .before .before .before .before .before .before .before .before .before .before .before .before .before .before .before .before .before .pre .room .mapLong) _ _ _ _ (c .before .before .before .before .before .before .walked .ensures)

@@ -14,7 +14,7 @@ code-at-requires : tie.Need-code-at-requires
 code-at-requires c κs = search needs
 
 insert-requires : tie.Need-insert-requires
-insert-requires c κs = search needs
+insert-requires c κs = tt
 
 with-gate-requires : tie.Need-with-gate-requires
 with-gate-requires c κs = search needs

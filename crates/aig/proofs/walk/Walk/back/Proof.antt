@@ -20,10 +20,10 @@ entry-requires c κs =
     (back-room (p .3), omega (arith, back-depth (p .3), c .before .if1 .left, ap (λ (w : Walk). w .depth) (c .shallower .ensures)))
 
 enum-known-frame : tie.Need-enum-known-frame
-enum-known-frame c = search needs
+enum-known-frame c = c .match .keys1
 
 enum-known-frame-2 : tie.Need-enum-known-frame-2
-enum-known-frame-2 c = search needs
+enum-known-frame-2 c = c .match .keys2
 
 returns-2 : tie.Need-returns-2
 returns-2 c = λ gates map out sources o k. returns-first k (c .before .before .before .before .before .if1 .left) (c .before .before .before .before .shallower .ensures) (c .before .before .before .entry .ensures) (c .before .frame .given .1)
