@@ -1,5 +1,4 @@
 -- `run`: each turn is a step that keeps what the start came to, with less to go; the end is what it came to. Assumes nothing.
-use borrow.Author.Needs.{needs}
 use Rattle.aig.proofs.walk.run.Statement.{statement}
 use Rattle.aig.proofs.walk.run.Tie as tie
 use Rattle.aig.proofs.Looping.{Loops, loops-start, loops-as, loops-again, loops-less, loops-reached, loops-stopped, map-kept, out-kept, scratch-kept}
@@ -15,7 +14,7 @@ loop-holds : tie.Need-loop-holds Inv-loop μ-loop
 loop-holds c = loops-start (c .before .before .before .before .pre)
 
 enum-known-state : tie.Need-enum-known-state Inv-loop μ-loop
-enum-known-state c = search needs
+enum-known-state c = c .match .keys1
 
 transfer-requires : tie.Need-transfer-requires Inv-loop μ-loop
 transfer-requires c κs = (_, loops-as (c .before .before .before .before .before .loop .inv) (c .before .before .before .state .given .1))
@@ -27,7 +26,7 @@ loop-again : tie.Need-loop-again Inv-loop μ-loop
 loop-again c = loops-again (c .before .before .before .before .before .before .before .before .loop .inv) (c .before .before .before .before .before .before .state .given .1) (c .before .before .transfer .ensures _)
 
 enum-known-state-2 : tie.Need-enum-known-state-2 Inv-loop μ-loop
-enum-known-state-2 c = search needs
+enum-known-state-2 c = c .match .keys2
 
 first-input-requires : tie.Need-first-input-requires Inv-loop μ-loop
 first-input-requires c κs = (_, _, loops-as (c .before .before .before .before .loop .inv) (c .before .before .state2 .given .1))
@@ -39,7 +38,7 @@ loop-again-2 : tie.Need-loop-again-2 Inv-loop μ-loop
 loop-again-2 c = loops-again (c .before .before .before .before .before .before .before .loop .inv) (c .before .before .before .before .before .state2 .given .1) (c .before .before .first-input .ensures _ _)
 
 enum-known-state-3 : tie.Need-enum-known-state-3 Inv-loop μ-loop
-enum-known-state-3 c = search needs
+enum-known-state-3 c = c .match .keys3
 
 second-input-requires : tie.Need-second-input-requires Inv-loop μ-loop
 second-input-requires c κs = loops-as (c .before .before .before .before .before .before .loop .inv) (c .before .before .before .before .state3 .given .1)
@@ -51,7 +50,7 @@ loop-again-3 : tie.Need-loop-again-3 Inv-loop μ-loop
 loop-again-3 c = loops-again (c .before .before .before .before .before .before .before .before .before .before .before .before .before .loop .inv) (c .before .before .before .before .before .before .before .before .before .before .before .state3 .given .1) (c .before .before .before .before .before .before .second-input .ensures)
 
 enum-known-state-4 : tie.Need-enum-known-state-4 Inv-loop μ-loop
-enum-known-state-4 c = search needs
+enum-known-state-4 c = c .match .keys4
 
 back-requires : tie.Need-back-requires Inv-loop μ-loop
 back-requires c κs = (_, _, _, loops-as (c .before .before .before .before .loop .inv) (c .before .before .state4 .given .1))
@@ -63,7 +62,7 @@ loop-again-4 : tie.Need-loop-again-4 Inv-loop μ-loop
 loop-again-4 c = loops-again (c .before .before .before .before .before .loop .inv) (c .before .before .before .state4 .given .1) (c .back .ensures _ _ _)
 
 enum-known-state-5 : tie.Need-enum-known-state-5 Inv-loop μ-loop
-enum-known-state-5 c = search needs
+enum-known-state-5 c = c .match .keys5
 
 same-length : tie.Need-same-length Inv-loop μ-loop
 same-length c = map-kept (c .before .before .before .loop .inv) (c .before .before .before .before .before .before .before .before .pre)
@@ -78,7 +77,7 @@ returns : tie.Need-returns Inv-loop μ-loop
 returns c = loops-reached (c .before .before .before .loop .inv) (c .before .state5 .given .1)
 
 enum-known-state-6 : tie.Need-enum-known-state-6 Inv-loop μ-loop
-enum-known-state-6 c = search needs
+enum-known-state-6 c = c .match .keys6
 
 same-length-4 : tie.Need-same-length-4 Inv-loop μ-loop
 same-length-4 c = map-kept (c .before .before .before .loop .inv) (c .before .before .before .before .before .before .before .before .pre)

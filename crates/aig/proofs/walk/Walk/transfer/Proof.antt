@@ -1,23 +1,22 @@
 -- `Walk::transfer`: each return is a case of the machine's look at a literal, tested in its order. Assumes nothing.
-use borrow.Author.Needs.{needs}
 use Rattle.aig.proofs.walk.Walk.transfer.Statement.{statement}
 use Rattle.aig.proofs.walk.Walk.transfer.Tie as tie
 use native.Mathlib.Omega.{arith}
-use mathlib.Core.Path.{sym, _∙_}
+use mathlib.Core.Path.{refl, sym, _∙_}
 use Rattle.aig.proofs.Transferring.{transfer-mapped, transfer-cycle, transfer-undefined, transfer-deep, transfer-enter, as-transfer}
 use Rattle.aig.proofs.Reading.{transfer-reads, transfer-depth}
 
 image-requires : tie.Need-image-requires
-image-requires c κs = search needs
+image-requires c κs = tt
 
 enum-known-image : tie.Need-enum-known-image
-enum-known-image c = search needs
+enum-known-image c = c .match .keys1
 
 returns : tie.Need-returns
 returns c = λ out sources o k. transfer-mapped k (sym (c .before .before .before .image .ensures) ∙ c .before .image2 .given .1)
 
 enum-told : tie.Need-enum-told
-enum-told c = search needs
+enum-told c = c .match .keys2
 
 middle-requires : tie.Need-middle-requires
 middle-requires c κs =
@@ -25,7 +24,7 @@ middle-requires c κs =
     (transfer-reads (p .1) .room, transfer-depth (p .1))
 
 same-length : tie.Need-same-length
-same-length c = search needs
+same-length c = refl
 
 returns-2 : tie.Need-returns-2
 returns-2 c = λ out sources o k. transfer-cycle k (sym (c .before .before .before .before .before .image .ensures) ∙ c .before .before .before .enum-told .given .1) (sym (c .before .middle .ensures) ∙ c .if1 .taken)
@@ -34,22 +33,22 @@ gate-of-requires : tie.Need-gate-of-requires
 gate-of-requires c κs = transfer-reads (c .before .before .before .before .before .before .before .before .before .before .pre .1) .inTable
 
 enum-known-number : tie.Need-enum-known-number
-enum-known-number c = search needs
+enum-known-number c = c .match2 .keys1
 
 enum-told-2 : tie.Need-enum-told-2
-enum-told-2 c = search needs
+enum-told-2 c = c .match2 .keys2
 
 same-length-2 : tie.Need-same-length-2
-same-length-2 c = search needs
+same-length-2 c = refl
 
 returns-3 : tie.Need-returns-3
 returns-3 c = λ out sources o k. transfer-undefined k (sym (c .before .before .before .before .before .before .before .before .before .image .ensures) ∙ c .before .before .before .before .before .before .before .enum-told .given .1) (sym (c .before .before .before .before .before .middle .ensures) ∙ c .before .before .before .before .if1 .left) (sym (c .before .before .gate-of .ensures) ∙ c .enum-told2 .given .1)
 
 mul-if2 : tie.Need-mul-if2
-mul-if2 c = search needs
+mul-if2 c = record { fits = omega (arith, transfer-reads (c .before .before .before .before .before .before .before .before .before .before .before .before .before .before .before .pre .1) .room .gates) }
 
 same-length-3 : tie.Need-same-length-3
-same-length-3 c = search needs
+same-length-3 c = refl
 
 returns-4 : tie.Need-returns-4
 returns-4 c = λ out sources o k. transfer-deep k (sym (c .before .before .before .before .before .before .before .before .before .before .before .before .before .image .ensures) ∙ c .before .before .before .before .before .before .before .before .before .before .before .enum-told .given .1) (sym (c .before .before .before .before .before .before .before .before .before .middle .ensures) ∙ c .before .before .before .before .before .before .before .before .if1 .left) (sym (c .before .before .before .before .before .before .gate-of .ensures) ∙ c .before .before .before .before .number .given .1) (c .if2 .taken)
@@ -68,7 +67,7 @@ first-of-requires : tie.Need-first-of-requires
 first-of-requires c κs = transfer-reads (c .before .before .before .before .before .before .before .before .before .before .before .before .before .before .before .before .before .before .before .before .before .before .pre .1) .number _ (sym (c .before .before .before .before .before .before .before .before .before .before .before .gate-of .ensures) ∙ c .before .before .before .before .before .before .before .before .before .number .given .1)
 
 same-length-4 : tie.Need-same-length-4
-same-length-4 c = search needs
+same-length-4 c = c .before .before .before .before .push .kept .0
 
 returns-5 : tie.Need-returns-5
 returns-5 c = λ out sources o k. as-transfer (c .before .deeper .ensures) (c .first-of .ensures) (c .before .before .before .before .push .ensures) (transfer-enter k (sym (c .before .before .before .before .before .before .before .before .before .before .before .before .before .before .before .before .before .before .before .image .ensures) ∙ c .before .before .before .before .before .before .before .before .before .before .before .before .before .before .before .before .before .enum-told .given .1) (sym (c .before .before .before .before .before .before .before .before .before .before .before .before .before .before .before .middle .ensures) ∙ c .before .before .before .before .before .before .before .before .before .before .before .before .before .before .if1 .left) (sym (c .before .before .before .before .before .before .before .before .before .before .before .before .gate-of .ensures) ∙ c .before .before .before .before .before .before .before .before .before .before .number .given .1) (c .before .before .before .before .before .before .if2 .left))
