@@ -1,5 +1,4 @@
 -- `order::outputs_if`: with the flag set nothing is walked. Assumes nothing.
-use borrow.Author.Needs.{needs}
 use Rattle.aig.proofs.order.outputs_if.Statement.{statement}
 use Rattle.aig.proofs.order.outputs_if.Tie as tie
 use Rattle.aig.proofs.InTurn.{trimmed, untrimmed-can, untrimmed}
@@ -16,13 +15,13 @@ outputs-requires c κs =
     untrimmed-can (outputsOf (a .gates .now)) _ _ _ (a .trim) (c .before .before .before .if1 .left) (c .before .before .before .before .before .before .before .before .pre)
 
 same-length : tie.Need-same-length
-same-length c = search needs
+same-length c = c .before .before .before .before .before .before .outputs .kept .1 .1 .0
 
 same-length-2 : tie.Need-same-length-2
-same-length-2 c = search needs
+same-length-2 c = c .before .before .before .before .before .before .outputs .kept .1 .1 .1 .0
 
 same-length-3 : tie.Need-same-length-3
-same-length-3 c = search needs
+same-length-3 c = c .before .before .before .before .before .before .outputs .kept .1 .1 .1 .1 .0
 
 returns-2 : tie.Need-returns-2
 returns-2 c =
