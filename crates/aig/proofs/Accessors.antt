@@ -49,9 +49,11 @@ pub no-middle : (ws : List ℕ) (depth c : ℕ) → depth ≡ 0 → false ≡ mi
 unfolding middleIs
 no-middle ws depth c e = rw (eq-eqb _ _ e)
 
-pub a-middle : (s : Shape) (ws : List ℕ) (depth c : ℕ) → depth ≢ 0 → depth ≤ 2 * s .gates → eqb (getD ws (stackAt s + depth / 2) 0 / 2) c ≡ middleIs (stackOf s ws) depth c
+-- x is the code that is looked for
+pub a-middle : (s : Shape) (ws : List ℕ) (depth c : ℕ) {x : ℕ} → x ≡ c → depth ≢ 0 → depth ≤ 2 * s .gates
+    → eqb (getD ws (stackAt s + depth / 2) 0 / 2) x ≡ middleIs (stackOf s ws) depth c
 unfolding middleIs
-a-middle s ws depth c n h = rw (ne-eqb _ _ n, at-stack s ws (depth / 2) (omega arith))
+a-middle s ws depth c e n h = rw (ne-eqb _ _ n, at-stack s ws (depth / 2) (omega arith), e)
 
 -- the chains
 module _ (s : Shape) (k hi : ℕ) (ws : List ℕ) where

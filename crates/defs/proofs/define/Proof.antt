@@ -5,7 +5,7 @@ use Rattle.defs.proofs.define.Tie as tie
 use Rattle.defs.proofs.Definitions.{define-new, define-again, define-past}
 
 place-of-requires : tie.Need-place-of-requires
-place-of-requires c κs = search needs
+place-of-requires c κs = tt
 
 mul-if2 : tie.Need-mul-if2
 mul-if2 c = search needs

@@ -7,13 +7,13 @@ use Rattle.circuit.specs.Outcome.{gatesOf}
 use Rattle.defs.proofs.Definitions.{all-inputs, all-gates, all-states, all-once}
 
 mark-constant-requires : tie.Need-mark-constant-requires
-mark-constant-requires c κs = search needs
+mark-constant-requires c κs = tt
 
 define-sources-requires : tie.Need-define-sources-requires
-define-sources-requires c κs = search needs
+define-sources-requires c κs = tt
 
 enum-known-again : tie.Need-enum-known-again
-enum-known-again c = search needs
+enum-known-again c = c .match .keys1
 
 same-length : tie.Need-same-length
 same-length c = search needs
@@ -22,13 +22,13 @@ returns : tie.Need-returns
 returns c = let a = c .before .before .before .before .before .before .before .before .before .before .before .before .before .before .before .args in all-inputs (now (a .table)) (now (a .inputs)) (now (a .states)) (gatesOf (now (a .gates))) _ (c .before .before .before .before .before .before .before .before .before .mark-constant .ensures) _ _ (c .before .before .before .before .before .define-sources .ensures) _ (c .before .again .given .1)
 
 enum-told : tie.Need-enum-told
-enum-told c = search needs
+enum-told c = c .match .keys2
 
 define-gates-requires : tie.Need-define-gates-requires
-define-gates-requires c κs = search needs
+define-gates-requires c κs = tt
 
 enum-known-again-2 : tie.Need-enum-known-again-2
-enum-known-again-2 c = search needs
+enum-known-again-2 c = c .match2 .keys1
 
 same-length-2 : tie.Need-same-length-2
 same-length-2 c = search needs
@@ -37,13 +37,13 @@ returns-2 : tie.Need-returns-2
 returns-2 c = let a = c .before .before .before .before .before .before .before .before .before .before .before .before .before .before .before .before .before .before .before .before .before .args in all-gates (now (a .table)) (now (a .inputs)) (now (a .states)) (gatesOf (now (a .gates))) _ (c .before .before .before .before .before .before .before .before .before .before .before .before .before .before .before .mark-constant .ensures) _ _ (c .before .before .before .before .before .before .before .before .before .before .before .define-sources .ensures) (c .before .before .before .before .before .before .before .enum-told .given .1) _ _ (c .before .before .before .before .before .define-gates .ensures) _ (c .before .again2 .given .1)
 
 enum-told-2 : tie.Need-enum-told-2
-enum-told-2 c = search needs
+enum-told-2 c = c .match2 .keys2
 
 define-sources-requires-2 : tie.Need-define-sources-requires-2
-define-sources-requires-2 c κs = search needs
+define-sources-requires-2 c κs = tt
 
 enum-known-again-3 : tie.Need-enum-known-again-3
-enum-known-again-3 c = search needs
+enum-known-again-3 c = c .match3 .keys1
 
 same-length-3 : tie.Need-same-length-3
 same-length-3 c = search needs
@@ -52,7 +52,7 @@ returns-3 : tie.Need-returns-3
 returns-3 c = let a = c .before .before .before .before .before .before .before .before .before .before .before .before .before .before .before .before .before .before .before .before .before .before .before .before .before .before .before .args in all-states (now (a .table)) (now (a .inputs)) (now (a .states)) (gatesOf (now (a .gates))) _ (c .before .before .before .before .before .before .before .before .before .before .before .before .before .before .before .before .before .before .before .before .before .mark-constant .ensures) _ _ (c .before .before .before .before .before .before .before .before .before .before .before .before .before .before .before .before .before .define-sources .ensures) (c .before .before .before .before .before .before .before .before .before .before .before .before .before .enum-told .given .1) _ _ (c .before .before .before .before .before .before .before .before .before .before .before .define-gates .ensures) (c .before .before .before .before .before .before .before .enum-told2 .given .1) _ _ (c .before .before .before .before .before .define-sources2 .ensures) _ (c .before .again3 .given .1)
 
 enum-told-3 : tie.Need-enum-told-3
-enum-told-3 c = search needs
+enum-told-3 c = c .match3 .keys2
 
 same-length-4 : tie.Need-same-length-4
 same-length-4 c = search needs

@@ -1,11 +1,10 @@
 -- `define_gates` meets its contract: what is left to define falls by one gate a turn; gate k's output is word 3k. Assumes nothing.
-use borrow.Author.Needs.{needs}
 use Rattle.defs.proofs.define_gates.Statement.{statement}
 use Rattle.defs.proofs.define_gates.Tie as tie
 use native.Mathlib.Omega.{arith}
 use denote.Ref.{now}
 use Prim.Native.Nat.{_≤_, _-_, _*_, _/_}
-use mathlib.Core.Path.{_≡_, sym, ap, _∙_}
+use mathlib.Core.Path.{_≡_, refl, sym, ap, _∙_}
 use Rattle.lit.specs.declared.Lit.{Lit}
 use lib.ListN.{length, getD, drop}
 use Rattle.defs.proofs.Definitions.{gates-on, gates-again, gates-end}
@@ -19,52 +18,52 @@ abbrev μ-loop : tie.MeasureT-loop
 μ-loop table₀ gates n k₀ table k = length gates / 3 - k
 
 loop-holds : tie.Need-loop-holds Inv-loop μ-loop
-loop-holds c = search needs
+loop-holds c = (omega arith, refl, refl)
 
 mul-from-code : tie.Need-mul-from-code Inv-loop μ-loop
-mul-from-code c = search needs
+mul-from-code c = record { fits = omega (arith, c .before .loop-test .taken, c .before .before .before .before .before .good .1) }
 
 mul-from-code-2 : tie.Need-mul-from-code-2 Inv-loop μ-loop
-mul-from-code-2 c = search needs
+mul-from-code-2 c = record { fits = omega (arith, c .before .loop-test .taken, c .before .before .before .before .before .good .1) }
 
 shared-slice-read-from-code : tie.Need-shared-slice-read-from-code Inv-loop μ-loop
-shared-slice-read-from-code c = search needs
+shared-slice-read-from-code c = omega (arith, c .before .before .loop-test .taken)
 
 from-code-requires : tie.Need-from-code-requires Inv-loop μ-loop
-from-code-requires c κs = search needs
+from-code-requires c κs = tt
 
 mark-of-requires : tie.Need-mark-of-requires Inv-loop μ-loop
-mark-of-requires c κs = search needs
+mark-of-requires c κs = omega (arith, c .before .before .before .loop-test .taken, c .before .before .before .before .before .before .before .good .1)
 
 define-requires : tie.Need-define-requires Inv-loop μ-loop
-define-requires c κs = search needs
+define-requires c κs = tt
 
 enum-known-again : tie.Need-enum-known-again Inv-loop μ-loop
-enum-known-again c = search needs
+enum-known-again c = c .match .keys1
 
 same-length : tie.Need-same-length Inv-loop μ-loop
-same-length c = (cc)
+same-length c = c .before .before .before .before .before .define .kept .0 ∙ c .before .before .before .before .before .before .before .before .before .before .before .loop .inv .1
 
 returns : tie.Need-returns Inv-loop μ-loop
-returns c = gates-again _ (now (c .before .before .before .before .before .before .before .before .before .before .before .before .before .before .args .gates)) _ (c .before .before .before .before .before .before .before .before .before .before .before .loop .k) _ _ _ (omega arith) (c .before .before .before .before .before .before .before .from-code .ensures) (c .before .before .before .before .before .before .mark-of .ensures) (c .before .before .before .before .before .define .ensures) _ (c .before .again .given .1) ∙ sym (c .before .before .before .before .before .before .before .before .before .before .before .loop .inv .2)
+returns c = gates-again (c .before .before .before .before .before .before .before .before .before .before .before .loop .table) (now (c .before .before .before .before .before .before .before .before .before .before .before .before .before .before .args .gates)) (c .before .before .before .before .before .define .last .0) (c .before .before .before .before .before .before .before .before .before .before .before .loop .k) (c .before .before .before .before .before .before .before .from-code .result) (c .before .before .before .before .before .before .mark-of .result) (c .before .before .before .before .before .define .result) (c .before .before .before .before .before .before .before .before .before .before .loop-test .taken) (c .before .before .before .before .before .before .before .from-code .ensures) (c .before .before .before .before .before .before .mark-of .ensures) (c .before .before .before .before .before .define .ensures) _ (c .before .again .given .1) ∙ sym (c .before .before .before .before .before .before .before .before .before .before .before .loop .inv .2)
 
 enum-told : tie.Need-enum-told Inv-loop μ-loop
-enum-told c = search needs
+enum-told c = c .match .keys2
 
 add-k : tie.Need-add-k Inv-loop μ-loop
-add-k c = search needs
+add-k c = record { fits = omega (arith, c .before .before .before .before .before .before .before .before .before .loop-test .taken, c .before .before .before .before .before .before .before .before .before .before .before .before .before .good .1) }
 
 loop-less : tie.Need-loop-less Inv-loop μ-loop
-loop-less c = search needs
+loop-less c = omega (arith, c .before .before .before .before .before .before .before .before .before .loop-test .taken)
 
 loop-again : tie.Need-loop-again Inv-loop μ-loop
-loop-again c = (omega arith, (cc), c .before .before .before .before .before .before .before .before .before .before .loop .inv .2 ∙ gates-on _ (now (c .before .before .before .before .before .before .before .before .before .before .before .before .before .args .gates)) _ (c .before .before .before .before .before .before .before .before .before .before .loop .k) _ _ _ (omega arith) (c .before .before .before .before .before .before .from-code .ensures) (c .before .before .before .before .before .mark-of .ensures) (c .before .before .before .before .define .ensures) (c .enum-told .given .1))
+loop-again c = (omega (arith, c .before .before .before .before .before .before .before .before .before .loop-test .taken), c .before .before .before .before .define .kept .0 ∙ c .before .before .before .before .before .before .before .before .before .before .loop .inv .1, c .before .before .before .before .before .before .before .before .before .before .loop .inv .2 ∙ gates-on (c .before .before .before .before .before .before .before .before .before .before .loop .table) (now (c .before .before .before .before .before .before .before .before .before .before .before .before .before .args .gates)) (c .before .before .before .before .define .last .0) (c .before .before .before .before .before .before .before .before .before .before .loop .k) (c .before .before .before .before .before .before .from-code .result) (c .before .before .before .before .before .mark-of .result) (c .before .before .before .before .define .result) (c .before .before .before .before .before .before .before .before .before .loop-test .taken) (c .before .before .before .before .before .before .from-code .ensures) (c .before .before .before .before .before .mark-of .ensures) (c .before .before .before .before .define .ensures) (c .enum-told .given .1))
 
 same-length-2 : tie.Need-same-length-2 Inv-loop μ-loop
-same-length-2 c = search needs
+same-length-2 c = c .before .loop .inv .1
 
 returns-2 : tie.Need-returns-2 Inv-loop μ-loop
-returns-2 c = gates-end _ (now (c .before .before .before .before .args .gates)) (c .before .loop .k) (omega arith) ∙ sym (c .before .loop .inv .2)
+returns-2 c = gates-end (c .before .loop .table) (now (c .before .before .before .before .args .gates)) (c .before .loop .k) (c .loop-test .left) ∙ sym (c .before .loop .inv .2)
 
 pub define-gates-spec : {M : Type 1} → statement M
 define-gates-spec =

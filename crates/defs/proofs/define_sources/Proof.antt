@@ -1,11 +1,10 @@
 -- `define_sources` meets its contract: what is left to define falls by one literal a turn. Assumes nothing.
-use borrow.Author.Needs.{needs}
 use Rattle.defs.proofs.define_sources.Statement.{statement}
 use Rattle.defs.proofs.define_sources.Tie as tie
 use native.Mathlib.Omega.{arith}
 use denote.Ref.{now}
 use Prim.Native.Nat.{_≤_, _-_}
-use mathlib.Core.Path.{_≡_, sym, ap, _∙_}
+use mathlib.Core.Path.{_≡_, refl, sym, ap, _∙_}
 use Rattle.lit.specs.declared.Lit.{Lit}
 use lib.ListN.{length, getD, drop}
 use Rattle.defs.proofs.Definitions.{sources-on, sources-again, sources-end}
@@ -18,46 +17,46 @@ abbrev μ-loop : tie.MeasureT-loop
 μ-loop table₀ literals i₀ table i = length literals - i
 
 loop-holds : tie.Need-loop-holds Inv-loop μ-loop
-loop-holds c = search needs
+loop-holds c = (omega arith, refl, refl)
 
 mul-from-code : tie.Need-mul-from-code Inv-loop μ-loop
-mul-from-code c = search needs
+mul-from-code c = record { fits = omega (arith, c .before .loop-test .taken, c .before .before .before .before .before .good .1) }
 
 shared-slice-read-from-code : tie.Need-shared-slice-read-from-code Inv-loop μ-loop
-shared-slice-read-from-code c = search needs
+shared-slice-read-from-code c = c .before .before .loop-test .taken
 
 from-code-requires : tie.Need-from-code-requires Inv-loop μ-loop
-from-code-requires c κs = search needs
+from-code-requires c κs = tt
 
 define-requires : tie.Need-define-requires Inv-loop μ-loop
-define-requires c κs = search needs
+define-requires c κs = tt
 
 enum-known-again : tie.Need-enum-known-again Inv-loop μ-loop
-enum-known-again c = search needs
+enum-known-again c = c .match .keys1
 
 same-length : tie.Need-same-length Inv-loop μ-loop
-same-length c = (cc)
+same-length c = c .before .before .before .before .before .define .kept .0 ∙ c .before .before .before .before .before .before .before .before .before .before .loop .inv .1
 
 returns : tie.Need-returns Inv-loop μ-loop
-returns c = sources-again _ _ _ _ _ _ _ (c .before .before .before .before .before .before .before .before .before .loop-test .taken) (c .before .before .before .before .before .before .from-code .ensures) (c .before .before .before .before .before .define .ensures) (c .before .again .given .1) ∙ sym (c .before .before .before .before .before .before .before .before .before .before .loop .inv .2)
+returns c = sources-again (c .before .before .before .before .before .before .before .before .before .before .loop .table) (now (c .before .before .before .before .before .before .before .before .before .before .before .before .before .args .literals)) (c .before .before .before .before .before .define .last .0) (c .before .before .before .before .before .before .before .before .before .before .loop .i) (c .before .before .before .before .before .before .from-code .result) _ (c .before .before .before .before .before .define .result) (c .before .before .before .before .before .before .before .before .before .loop-test .taken) (c .before .before .before .before .before .before .from-code .ensures) (c .before .before .before .before .before .define .ensures) (c .before .again .given .1) ∙ sym (c .before .before .before .before .before .before .before .before .before .before .loop .inv .2)
 
 enum-told : tie.Need-enum-told Inv-loop μ-loop
-enum-told c = search needs
+enum-told c = c .match .keys2
 
 add-i : tie.Need-add-i Inv-loop μ-loop
-add-i c = search needs
+add-i c = record { fits = omega (arith, c .before .before .before .before .before .before .before .before .loop-test .taken, c .before .before .before .before .before .before .before .before .before .before .before .before .good .1) }
 
 loop-less : tie.Need-loop-less Inv-loop μ-loop
-loop-less c = search needs
+loop-less c = omega (arith, c .before .before .before .before .before .before .before .before .loop-test .taken)
 
 loop-again : tie.Need-loop-again Inv-loop μ-loop
-loop-again c = (omega arith, (cc), c .before .before .before .before .before .before .before .before .before .loop .inv .2 ∙ sources-on _ _ _ _ _ _ (c .before .before .before .before .before .before .before .before .loop-test .taken) (c .before .before .before .before .before .from-code .ensures) (c .before .before .before .before .define .ensures) (c .enum-told .given .1))
+loop-again c = (omega (arith, c .before .before .before .before .before .before .before .before .loop-test .taken), c .before .before .before .before .define .kept .0 ∙ c .before .before .before .before .before .before .before .before .before .loop .inv .1, c .before .before .before .before .before .before .before .before .before .loop .inv .2 ∙ sources-on (c .before .before .before .before .before .before .before .before .before .loop .table) (now (c .before .before .before .before .before .before .before .before .before .before .before .before .args .literals)) (c .before .before .before .before .define .last .0) (c .before .before .before .before .before .before .before .before .before .loop .i) (c .before .before .before .before .before .from-code .result) (c .before .before .before .before .define .result) (c .before .before .before .before .before .before .before .before .loop-test .taken) (c .before .before .before .before .before .from-code .ensures) (c .before .before .before .before .define .ensures) (c .enum-told .given .1))
 
 same-length-2 : tie.Need-same-length-2 Inv-loop μ-loop
-same-length-2 c = search needs
+same-length-2 c = c .before .loop .inv .1
 
 returns-2 : tie.Need-returns-2 Inv-loop μ-loop
-returns-2 c = sources-end _ _ _ (c .loop-test .left) ∙ sym (c .before .loop .inv .2)
+returns-2 c = sources-end (c .before .loop .table) (now (c .before .before .before .before .args .literals)) (c .before .loop .i) (c .loop-test .left) ∙ sym (c .before .loop .inv .2)
 
 pub define-sources-spec : {M : Type 1} → statement M
 define-sources-spec =

@@ -1,5 +1,4 @@
 -- `order::list`: each turn walks the literal at its place, and those after it wait. Assumes nothing.
-use borrow.Author.Needs.{needs}
 use Rattle.aig.proofs.order.list.Statement.{statement}
 use Rattle.aig.proofs.order.list.Tie as tie
 use native.Mathlib.Omega.{arith}
@@ -19,10 +18,10 @@ loop-holds : tie.Need-loop-holds Inv-loop μ-loop
 loop-holds c = listing-start (c .before .before .before .before .before .pre)
 
 mul-from-code : tie.Need-mul-from-code Inv-loop μ-loop
-mul-from-code c = search needs
+mul-from-code c = record { fits = omega (arith, c .loop-test .taken, c .before .before .before .before .before .before .before .good .0) }
 
 shared-slice-read-from-code : tie.Need-shared-slice-read-from-code Inv-loop μ-loop
-shared-slice-read-from-code c = search needs
+shared-slice-read-from-code c = c .before .loop-test .taken
 
 from-code-requires : tie.Need-from-code-requires Inv-loop μ-loop
 from-code-requires c κs = tt
@@ -49,10 +48,10 @@ returns : tie.Need-returns Inv-loop μ-loop
 returns c = listing-stop (c .before .before .before .before .before .before .before .before .before .before .before .before .before .before .before .before .loop .inv) (c .before .before .before .before .before .before .before .before .before .before .before .before .before .before .before .loop-test .taken) (ap (λ (l : Lit). l .0) (c .before .before .before .before .before .before .before .before .before .before .before .before .before .from-code .ensures)) (c .before .before .before .before .before .before .before .before .before .one .result) _ _ _ (c .before .before .before .before .before .before .before .before .before .one .ensures) _ (c .before .walked2 .given .1)
 
 add-i : tie.Need-add-i Inv-loop μ-loop
-add-i c = search needs
+add-i c = record { fits = omega (arith, c .before .before .before .before .before .before .before .before .before .before .before .before .before .before .before .loop-test .taken, c .before .before .before .before .before .before .before .before .before .before .before .before .before .before .before .before .before .before .before .before .before .before .good .0) }
 
 loop-less : tie.Need-loop-less Inv-loop μ-loop
-loop-less c = omega arith
+loop-less c = omega (arith, c .before .before .before .before .before .before .before .before .before .before .before .before .before .before .before .loop-test .taken)
 
 loop-again : tie.Need-loop-again Inv-loop μ-loop
 loop-again c = listing-on (c .before .before .before .before .before .before .before .before .before .before .before .before .before .before .before .before .loop .inv) (c .before .before .before .before .before .before .before .before .before .before .before .before .before .before .before .loop-test .taken) (ap (λ (l : Lit). l .0) (c .before .before .before .before .before .before .before .before .before .before .before .before .before .from-code .ensures)) (c .before .before .before .before .before .before .before .before .before .one .result) _ _ _ (c .before .before .before .before .before .before .before .before .before .one .ensures) _ (c .before .walked .given .1)

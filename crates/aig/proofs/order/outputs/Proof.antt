@@ -1,5 +1,4 @@
 -- `order::outputs`: each turn walks the output of the gate at its place, and those after it wait. Assumes nothing.
-use borrow.Author.Needs.{needs}
 use Rattle.aig.proofs.order.outputs.Statement.{statement}
 use Rattle.aig.proofs.order.outputs.Tie as tie
 use native.Mathlib.Omega.{arith}
@@ -51,10 +50,10 @@ returns c =
     listing-stop (c .before .before .before .before .before .before .before .before .before .before .before .before .before .before .before .before .loop .inv) (omega (arith, outputs-count (p), c .before .before .before .before .before .before .before .before .before .before .before .before .before .before .if1 .taken)) (output-is (p) _ _ (c .before .before .before .before .before .before .before .before .before .before .before .before .before .before .if1 .taken) (c .before .before .before .before .before .before .before .before .before .before .before .before .before .output-of .ensures)) (c .before .before .before .before .before .before .before .before .before .one .result) _ _ _ (c .before .before .before .before .before .before .before .before .before .one .ensures) _ (c .before .walked2 .given .1)
 
 add-k : tie.Need-add-k Inv-loop μ-loop
-add-k c = search needs
+add-k c = record { fits = omega (arith, c .before .before .before .before .before .before .before .before .before .before .before .before .before .before .if1 .taken, c .before .before .before .before .before .before .before .before .before .before .before .before .before .before .before .struct-known .given) }
 
 loop-less : tie.Need-loop-less Inv-loop μ-loop
-loop-less c = omega arith
+loop-less c = omega (arith, c .before .before .before .before .before .before .before .before .before .before .before .before .before .before .if1 .taken)
 
 loop-again : tie.Need-loop-again Inv-loop μ-loop
 loop-again c =

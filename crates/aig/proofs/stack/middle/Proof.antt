@@ -1,26 +1,26 @@
 -- `stack::middle`: the word at half the depth holds the literal doubled. Assumes nothing.
-use borrow.Author.Needs.{needs}
 use Rattle.aig.proofs.stack.middle.Statement.{statement}
 use Rattle.aig.proofs.stack.middle.Tie as tie
+use native.Mathlib.Omega.{arith}
 use Rattle.aig.proofs.Accessors.{no-middle, a-middle}
 
 returns : tie.Need-returns
 returns c = no-middle _ _ _ (c .if1 .taken)
 
 mul-at : tie.Need-mul-at
-mul-at c = search needs
+mul-at c = record { fits = omega (arith, c .before .before .before .pre .0 .vars) }
 
 add-at : tie.Need-add-at
-add-at c = search needs
+add-at c = record { fits = omega (arith, c .before .before .before .before .pre .0 .vars, c .before .before .before .before .pre .0 .gates, c .before .before .before .before .pre .1) }
 
 add-at-2 : tie.Need-add-at-2
-add-at-2 c = search needs
+add-at-2 c = record { fits = omega (arith, c .before .before .before .before .pre .0 .vars, c .before .before .before .before .pre .0 .gates, c .before .before .before .before .pre .1) }
 
 mul-word : tie.Need-mul-word
-mul-word c = search needs
+mul-word c = record { fits = omega (arith, c .before .before .before .before .pre .0 .vars, c .before .before .before .before .pre .0 .gates, c .before .before .before .before .pre .1) }
 
 shared-slice-read-word : tie.Need-shared-slice-read-word
-shared-slice-read-word c = search needs
+shared-slice-read-word c = omega (arith, c .before .before .before .before .before .pre .0 .long, c .before .before .before .before .before .pre .1, c .before .before .before .if1 .left)
 
 code-requires : tie.Need-code-requires
 code-requires c κs = tt
@@ -28,7 +28,7 @@ code-requires c κs = tt
 returns-2 : tie.Need-returns-2
 returns-2 c =
     let a = c .before .before .before .before .before .before .args in
-    cc (a-middle (a .shape) (a .scratch .now) (a .depth) (a .lit .0) (c .before .before .before .before .if1 .left) (c .before .before .before .before .before .before .pre .1))
+    a-middle (a .shape) (a .scratch .now) (a .depth) (a .lit .0) (c .code .ensures) (c .before .before .before .before .if1 .left) (c .before .before .before .before .before .before .pre .1)
 
 pub middle-spec : {M : Type 1} → statement M
 middle-spec =

@@ -1,5 +1,4 @@
 -- `Walk::transfer`: each return is a case of the machine's look at a literal, tested in its order. Assumes nothing.
-use borrow.Author.Needs.{needs}
 use Rattle.aig.proofs.walk.Walk.transfer.Statement.{statement}
 use Rattle.aig.proofs.walk.Walk.transfer.Tie as tie
 use native.Mathlib.Omega.{arith}
@@ -46,7 +45,7 @@ returns-3 : tie.Need-returns-3
 returns-3 c = λ out sources o k. transfer-undefined k (sym (c .before .before .before .before .before .before .before .before .before .image .ensures) ∙ c .before .before .before .before .before .before .before .enum-told .given .1) (sym (c .before .before .before .before .before .middle .ensures) ∙ c .before .before .before .before .if1 .left) (sym (c .before .before .gate-of .ensures) ∙ c .enum-told2 .given .1)
 
 mul-if2 : tie.Need-mul-if2
-mul-if2 c = search needs
+mul-if2 c = record { fits = omega (arith, transfer-reads (c .before .before .before .before .before .before .before .before .before .before .before .before .before .before .before .pre .1) .room .gates) }
 
 same-length-3 : tie.Need-same-length-3
 same-length-3 c = refl
@@ -68,7 +67,7 @@ first-of-requires : tie.Need-first-of-requires
 first-of-requires c κs = transfer-reads (c .before .before .before .before .before .before .before .before .before .before .before .before .before .before .before .before .before .before .before .before .before .before .pre .1) .number _ (sym (c .before .before .before .before .before .before .before .before .before .before .before .gate-of .ensures) ∙ c .before .before .before .before .before .before .before .before .before .number .given .1)
 
 same-length-4 : tie.Need-same-length-4
-same-length-4 c = search needs
+same-length-4 c = c .before .before .before .before .push .kept .0
 
 returns-5 : tie.Need-returns-5
 returns-5 c = λ out sources o k. as-transfer (c .before .deeper .ensures) (c .first-of .ensures) (c .before .before .before .before .push .ensures) (transfer-enter k (sym (c .before .before .before .before .before .before .before .before .before .before .before .before .before .before .before .before .before .before .before .image .ensures) ∙ c .before .before .before .before .before .before .before .before .before .before .before .before .before .before .before .before .before .enum-told .given .1) (sym (c .before .before .before .before .before .before .before .before .before .before .before .before .before .before .before .middle .ensures) ∙ c .before .before .before .before .before .before .before .before .before .before .before .before .before .before .if1 .left) (sym (c .before .before .before .before .before .before .before .before .before .before .before .before .gate-of .ensures) ∙ c .before .before .before .before .before .before .before .before .before .before .number .given .1) (c .before .before .before .before .before .before .if2 .left))
