@@ -1,23 +1,8 @@
-// Bytes and tokens' answers on standard output.
+// Tokens' answers on standard output.
 use crate::say;
-use libc::STDOUT_FILENO;
 use token::PairToken;
 use token::Reason;
 use token::Token;
-
-// Each byte as a space and two hexadecimal digits.
-pub fn hex(s: &[u8]) {
-    let mut i = 0;
-    while i < s.len() {
-        byte(s[i]);
-        i += 1;
-    }
-}
-
-fn byte(b: u8) {
-    say::text(b" ");
-    io::print_hex(STDOUT_FILENO, b as u64, 2);
-}
 
 // `: VALUE in USED`, or what refused it, and the line's end.
 pub fn token(t: Token) {

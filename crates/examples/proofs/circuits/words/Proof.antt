@@ -6,10 +6,13 @@ use Rattle.examples.proofs.circuits.words.Statement.{statement}
 use Rattle.examples.proofs.circuits.words.Tie as tie
 
 abbrev Inv-loop : tie.InvT-loop
-Inv-loop list i₀ i = i ≤ length list
+Inv-loop name list i₀ i = i ≤ length list
 
 abbrev μ-loop : tie.MeasureT-loop
-μ-loop list i₀ i = length list - i
+μ-loop name list i₀ i = length list - i
+
+text-requires : tie.Need-text-requires Inv-loop μ-loop
+text-requires c κs = search needs
 
 loop-holds : tie.Need-loop-holds Inv-loop μ-loop
 loop-holds c = search needs
@@ -50,6 +53,7 @@ words-spec =
     (tie.spec
     Inv-loop
     μ-loop
+    text-requires
     loop-holds
     mul-if1
     shared-slice-read-if1
