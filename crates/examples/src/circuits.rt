@@ -97,16 +97,12 @@ fn printed(answer: Answer, map: &[u32], gates: &[u32], nexts: &[u32], roots: &[u
 fn outcome(answer: Answer) {
     match answer {
         Answer::Renumbered(summary) => {
-            say::text(b"made ");
-            say::number(summary.made as u64);
-            say::text(b", largest ");
-            say::number(summary.top.index() as u64);
+            say::counted(b"made ", summary.made as u64);
+            say::counted(b", largest ", summary.top.index() as u64);
         }
         Answer::Refused(why) => {
-            say::text(b"refused ");
-            say::number(circuit::number(why) as u64);
-            say::text(b" ");
-            say::number(circuit::literal(why).code() as u64);
+            say::counted(b"refused ", circuit::number(why) as u64);
+            say::counted(b" ", circuit::literal(why).code() as u64);
         }
     }
 }
@@ -116,20 +112,20 @@ fn words(name: &[u8], list: &[u32]) {
     say::text(name);
     let mut i = 0;
     while i < list.len() {
-        if list[i] == 77 {
+        let w = list[i];
+        if w == 77 {
             return;
         }
-        word(list[i]);
+        word(w);
         i += 1;
     }
 }
 
 // A space and the word; `-` for the word that stands for no image.
 fn word(w: u32) {
-    say::text(b" ");
     if w == 4294967295 {
-        say::text(b"-");
+        say::text(b" -");
         return;
     }
-    say::number(w as u64);
+    say::counted(b" ", w as u64);
 }

@@ -8,8 +8,7 @@ use token::Token;
 pub fn token(t: Token) {
     match t {
         Token::Value { value, used } => {
-            say::text(b": ");
-            say::number(value);
+            say::counted(b": ", value);
             ends_in(used);
         }
         Token::Refused { why, place } => refused(why, place),
@@ -24,10 +23,8 @@ pub fn pair(t: PairToken) {
             second,
             used,
         } => {
-            say::text(b": (");
-            say::number(first);
-            say::text(b", ");
-            say::number(second);
+            say::counted(b": (", first);
+            say::counted(b", ", second);
             say::text(b")");
             ends_in(used);
         }
@@ -36,15 +33,12 @@ pub fn pair(t: PairToken) {
 }
 
 fn ends_in(used: usize) {
-    say::text(b" in ");
-    say::number(used as u64);
+    say::counted(b" in ", used as u64);
     say::line_end();
 }
 
 fn refused(why: Reason, place: usize) {
-    say::text(b": refused ");
-    say::number(token::number(why) as u64);
-    say::text(b" at ");
-    say::number(place as u64);
+    say::counted(b": refused ", token::number(why) as u64);
+    say::counted(b" at ", place as u64);
     say::line_end();
 }
