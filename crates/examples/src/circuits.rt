@@ -6,35 +6,34 @@ use circuit::Answer;
 use circuit::CircuitRecord;
 use lit::Var;
 
-// This function and the four after it read one list each from the line.
+// This function and the two after it read the line's lists.
 pub fn answer(line: &[u8]) {
     let mut inputs = [0u32; 4];
-    let n = lists::list(line, b'i', &mut inputs);
-    with_states(line, &inputs[..n]);
+    let n = lists::list(line, b'I', &mut inputs);
+    with_latches(line, &inputs[..n]);
 }
 
-fn with_states(line: &[u8], inputs: &[u32]) {
+fn with_latches(line: &[u8], inputs: &[u32]) {
     let mut states = [0u32; 4];
-    let n = lists::list(line, b'l', &mut states);
-    with_nexts(line, inputs, &states[..n]);
-}
-
-fn with_nexts(line: &[u8], inputs: &[u32], states: &[u32]) {
     let mut nexts = [0u32; 4];
-    let n = lists::list(line, b'n', &mut nexts);
-    with_gates(line, inputs, states, &nexts[..n]);
+    let s = lists::list(line, b'L', &mut states);
+    let n = lists::list(line, b'N', &mut nexts);
+    with_gates(line, inputs, &states[..s], &nexts[..n]);
 }
 
 fn with_gates(line: &[u8], inputs: &[u32], states: &[u32], nexts: &[u32]) {
     let mut gates = [0u32; 12];
-    let n = lists::list(line, b'g', &mut gates);
-    with_roots(line, inputs, states, nexts, &gates[..n]);
-}
-
-fn with_roots(line: &[u8], inputs: &[u32], states: &[u32], nexts: &[u32], gates: &[u32]) {
     let mut roots = [0u32; 4];
-    let n = lists::list(line, b'r', &mut roots);
-    shown(record(line, n), inputs, states, nexts, gates, &roots[..n]);
+    let g = lists::list(line, b'G', &mut gates);
+    let r = lists::list(line, b'R', &mut roots);
+    shown(
+        record(line, r),
+        inputs,
+        states,
+        nexts,
+        &gates[..g],
+        &roots[..r],
+    );
 }
 
 // The circuit but for its lists; its roots are all outputs.
@@ -44,9 +43,9 @@ fn record(line: &[u8], roots: usize) -> CircuitRecord {
     CircuitRecord {
         top: Var::from_index(top(line)),
         counts,
-        trim: lists::named(line, b't'),
-        hash: lists::named(line, b'h'),
-        fold: lists::named(line, b'f'),
+        trim: lists::named(line, b'T'),
+        hash: lists::named(line, b'H'),
+        fold: lists::named(line, b'F'),
     }
 }
 

@@ -32,7 +32,7 @@ fn lines(s: &[u8]) {
 fn line(s: &[u8]) {
     match fields::byte(s, 0) {
         0 | b'#' => {}
-        b'c' => circuits::answer(s),
+        b'V' => circuits::answer(s),
         _ => tokens::answer(s),
     }
 }

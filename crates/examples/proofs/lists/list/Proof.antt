@@ -1,4 +1,4 @@
--- `lists::list` writes within the words and answers a place of them or their end. Assumes nothing.
+-- `lists::list` writes within the words and counts what it wrote. Assumes nothing.
 use Prim.Native.Nat.{_≤_, _-_}
 use mathlib.Core.Path.{_≡_}
 use lib.ListN.{length}
@@ -8,19 +8,19 @@ use Rattle.examples.proofs.lists.list.Statement.{statement}
 use Rattle.examples.proofs.lists.list.Tie as tie
 
 abbrev Inv-loop : tie.InvT-loop
-Inv-loop s letter words₀ at₀ n₀ words at n = (n ≤ length words) × (length words ≡ length words₀)
+Inv-loop s letter words₀ at₀ last₀ n₀ words at last n = (n ≤ length words) × (length words ≡ length words₀)
 
 abbrev μ-loop : tie.MeasureT-loop
-μ-loop s letter words₀ at₀ n₀ words at n = length s - at
+μ-loop s letter words₀ at₀ last₀ n₀ words at last n = length s - at
 
-word-requires : tie.Need-word-requires Inv-loop μ-loop
-word-requires c κs = search needs
+find-requires : tie.Need-find-requires Inv-loop μ-loop
+find-requires c κs = search needs
 
 loop-holds : tie.Need-loop-holds Inv-loop μ-loop
 loop-holds c = search needs
 
-shared-slice-read-if1 : tie.Need-shared-slice-read-if1 Inv-loop μ-loop
-shared-slice-read-if1 c = search needs
+shared-slice-read-b : tie.Need-shared-slice-read-b Inv-loop μ-loop
+shared-slice-read-b c = search needs
 
 same-length : tie.Need-same-length Inv-loop μ-loop
 same-length c = search needs
@@ -52,9 +52,9 @@ list-spec =
     (tie.spec
     Inv-loop
     μ-loop
-    word-requires
+    find-requires
     loop-holds
-    shared-slice-read-if1
+    shared-slice-read-b
     same-length
     returns
     number-requires
