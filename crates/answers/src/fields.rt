@@ -1,7 +1,7 @@
 // The parts of a question's line: a word, numbers in decimal, and bytes in hexadecimal, a space between each two.
 ghost use Prim.Native.Nat.{_≤_};
-ghost use lib.ListN.{length};
 ghost use Rattle.io.specs.Counts.{Counts};
+use bytes::scan::find;
 use token::Token;
 
 // A number, and the place after it and a space.
@@ -10,31 +10,9 @@ pub struct Field {
     pub next: usize,
 }
 
-// Where the line at a place ends: at its newline, or at the end of the bytes.
-pub fn line_end(s: &[u8], at: usize) -> usize
-    requires { ⌜ at ≤ length (now s) ⌝ }
-    ensures { λ r. ⌜ (at ≤ r) × (r ≤ length (now (s .entry))) ⌝ }
-{
-    let mut end = at;
-    while end < s.len() {
-        if s[end] == b'\n' {
-            return end;
-        }
-        end += 1;
-    }
-    end
-}
-
 // The place after the line's first space.
 pub fn after_word(s: &[u8]) -> usize {
-    let mut i = 0;
-    while i < s.len() {
-        if s[i] == b' ' {
-            return i + 1;
-        }
-        i += 1;
-    }
-    i
+    sum(find(s, 0, s.len(), b' '), 1)
 }
 
 // The number at a place; 0 where none stands there.
@@ -55,41 +33,36 @@ pub fn bytes(s: &[u8], from: usize, out: &mut [u8]) -> usize
     let mut n = 0;
     let mut at = from;
     while n < out.len() {
-        let high = digit(byte(s, at));
-        let low = digit(byte(s, sum(at, 1)));
-        if 15 < high {
+        let value = digits(s, at);
+        if 255 < value {
             return n;
         }
-        if 15 < low {
-            return n;
-        }
-        out[n] = 16 * high + low;
+        out[n] = (value % 256) as u8;
         n += 1;
         at = sum(at, 2);
     }
     n
 }
 
+// What the two hexadecimal digits at a place stand for; more than 255 where they do not stand there.
+fn digits(s: &[u8], at: usize) -> u32 {
+    16 * digit(byte(s, at)) + digit(byte(s, sum(at, 1)))
+}
+
+// What a hexadecimal digit in lower case stands for; 256 for anything else.
+fn digit(b: u8) -> u32
+    ensures { λ r. ⌜ r ≤ 256 ⌝ }
+{
+    match b {
+        b'0'..=b'9' => (b - b'0') as u32,
+        b'a'..=b'f' => (b - b'a' + 10) as u32,
+        _ => 256,
+    }
+}
+
 // The byte at a place, and 0 past the end.
 pub fn byte(s: &[u8], at: usize) -> u8 {
     if at < s.len() { s[at] } else { 0 }
-}
-
-// What a hexadecimal digit in lower case stands for; 16 for anything else.
-fn digit(b: u8) -> u8 {
-    if b < b'0' {
-        return 16;
-    }
-    if b <= b'9' {
-        return b - b'0';
-    }
-    if b < b'a' {
-        return 16;
-    }
-    if b <= b'f' {
-        return b - b'a' + 10;
-    }
-    16
 }
 
 // The sum, or the largest number where it would be larger.

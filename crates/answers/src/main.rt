@@ -7,6 +7,7 @@ mod tokens;
 
 ghost use mathlib.Core.Path.{_≡_};
 ghost use lib.ListN.{length};
+use bytes::scan::find;
 use libc::STDIN_FILENO;
 
 // Room for the questions.
@@ -26,7 +27,7 @@ fn main() {
 fn lines(s: &[u8]) {
     let mut at = 0;
     while at < s.len() {
-        let end = fields::line_end(s, at);
+        let end = find(s, at, s.len(), b'\n');
         answer(&s[at..end]);
         at = end + 1;
     }

@@ -1,53 +1,60 @@
-// Circuits of document 01 and of the AIGER papers, and some that pin what the walk does, renumbered. Gates are output, first input, second input;
-// lent lists are longer than they have to be and hold 77, so that a word written past those named would show.
+// Circuits: renumbers the one on an example's line and prints the answer and the fronts of the lent lists. These are longer than they have to
+// be and hold 77, so that a word written past those named would show.
+use crate::lists;
 use crate::say;
 use circuit::Answer;
 use circuit::CircuitRecord;
 use lit::Var;
 
-const NONE: [u32; 0] = [];
-
-const TRIM: u32 = 1;
-
-const HASH: u32 = 2;
-
-const FOLD: u32 = 4;
-
-pub fn run() {
-    document();
-    refused();
-    papers();
-    pinned();
+// This function and the two after it read the line's lists.
+pub fn answer(line: &[u8]) {
+    let mut inputs = [0u32; 4];
+    let n = lists::list(line, b'I', &mut inputs);
+    with_latches(line, &inputs[..n]);
 }
 
-// A circuit whose roots are all outputs.
-fn circuit(top: u32, flags: u32, inputs: &[u32], gates: &[u32], roots: &[u32]) {
-    latched(top, flags, inputs, &NONE, &NONE, gates, roots);
+fn with_latches(line: &[u8], inputs: &[u32]) {
+    let mut states = [0u32; 4];
+    let mut nexts = [0u32; 4];
+    let s = lists::list(line, b'L', &mut states);
+    let n = lists::list(line, b'N', &mut nexts);
+    with_gates(line, inputs, &states[..s], &nexts[..n]);
 }
 
-// The same with latches.
-fn latched(
-    top: u32,
-    flags: u32,
-    inputs: &[u32],
-    states: &[u32],
-    nexts: &[u32],
-    gates: &[u32],
-    roots: &[u32],
-) {
+fn with_gates(line: &[u8], inputs: &[u32], states: &[u32], nexts: &[u32]) {
+    let mut gates = [0u32; 12];
+    let mut roots = [0u32; 4];
+    let g = lists::list(line, b'G', &mut gates);
+    let r = lists::list(line, b'R', &mut roots);
+    shown(
+        record(line, r),
+        inputs,
+        states,
+        nexts,
+        &gates[..g],
+        &roots[..r],
+    );
+}
+
+// The circuit but for its lists; its roots are all outputs.
+fn record(line: &[u8], roots: usize) -> CircuitRecord {
     let mut counts = [0u32; 5];
-    counts[0] = (roots.len() % 4294967296) as u32;
-    let record = CircuitRecord {
-        top: Var::from_index(top),
+    counts[0] = (roots % 4294967296) as u32;
+    CircuitRecord {
+        top: Var::from_index(top(line)),
         counts,
-        trim: flags % 2 == 1,
-        hash: flags / 2 % 2 == 1,
-        fold: flags / 4 % 2 == 1,
-    };
-    shown(record, inputs, states, nexts, gates, roots);
+        trim: lists::named(line, b'T'),
+        hash: lists::named(line, b'H'),
+        fold: lists::named(line, b'F'),
+    }
 }
 
-// Renumbers, and prints the answer and the fronts of the lent lists.
+fn top(line: &[u8]) -> u32 {
+    let mut top = [0u32; 1];
+    lists::list(line, b'V', &mut top);
+    top[0]
+}
+
 fn shown(
     record: CircuitRecord,
     inputs: &[u32],
@@ -74,161 +81,50 @@ fn shown(
         &mut gates_out,
         &mut scratch,
     );
-    match answer {
-        Answer::Renumbered(summary) => {
-            say::text(b"made ");
-            say::number(summary.made as u64);
-            say::text(b", largest ");
-            say::number(summary.top.index() as u64);
-        }
-        Answer::Refused(why) => {
-            say::text(b"refused ");
-            say::number(circuit::number(why) as u64);
-            say::text(b" ");
-            say::number(circuit::literal(why).code() as u64);
-        }
-    }
-    say::text(b"; map");
-    words(&map);
-    say::text(b"; gates");
-    words(&gates_out);
-    say::text(b"; nexts");
-    words(&next_images);
-    say::text(b"; roots");
-    words(&root_images);
+    printed(answer, &map, &gates_out, &next_images, &root_images);
+}
+
+fn printed(answer: Answer, map: &[u32], gates: &[u32], nexts: &[u32], roots: &[u32]) {
+    outcome(answer);
+    words(b"; map", map);
+    words(b"; gates", gates);
+    words(b"; nexts", nexts);
+    words(b"; roots", roots);
     say::line_end();
 }
 
-// The words up to the first 77.
-fn words(list: &[u32]) {
+fn outcome(answer: Answer) {
+    match answer {
+        Answer::Renumbered(summary) => {
+            say::counted(b"made ", summary.made as u64);
+            say::counted(b", largest ", summary.top.index() as u64);
+        }
+        Answer::Refused(why) => {
+            say::counted(b"refused ", circuit::number(why) as u64);
+            say::counted(b" ", circuit::literal(why).code() as u64);
+        }
+    }
+}
+
+// The name, and the words up to the first 77.
+fn words(name: &[u8], list: &[u32]) {
+    say::text(name);
     let mut i = 0;
     while i < list.len() {
-        if list[i] == 77 {
+        let w = list[i];
+        if w == 77 {
             return;
         }
-        word(list[i]);
+        word(w);
         i += 1;
     }
 }
 
 // A space and the word; `-` for the word that stands for no image.
 fn word(w: u32) {
-    say::text(b" ");
     if w == 4294967295 {
-        say::text(b"-");
+        say::text(b" -");
         return;
     }
-    say::number(w as u64);
-}
-
-// Document 01's circuits that are renumbered, the starred ones too, and its cycles.
-fn document() {
-    // empty
-    circuit(0, 0, &NONE, &NONE, &NONE);
-    // inputs 4, 2, gate 6(2,4), root 6
-    circuit(3, 0, &[4, 2], &[6, 2, 4], &[6]);
-    // input 3, root 2
-    circuit(1, 0, &[3], &NONE, &[2]);
-    // input 2, gate 5(2,2), root 4
-    circuit(2, 0, &[2], &[5, 2, 2], &[4]);
-    // folding
-    circuit(2, FOLD, &[2], &[5, 2, 2], &[4]);
-    // input 2, gate 4(2,3), folding
-    circuit(2, FOLD, &[2], &[4, 2, 3], &NONE);
-    // gate 2(2,0), root 2, folding
-    circuit(1, FOLD, &NONE, &[2, 2, 0], &[2]);
-    // trim and root 3
-    circuit(1, TRIM + FOLD, &NONE, &[2, 2, 0], &[3]);
-    // trim and root 3, no folding
-    circuit(1, TRIM, &NONE, &[2, 2, 0], &[3]);
-    // trim, no root
-    circuit(1, TRIM + FOLD, &NONE, &[2, 2, 0], &NONE);
-    // inputs 2, 4, gates 6(2,4), 8(4,2), roots 6, 8: hashing
-    circuit(4, HASH, &[2, 4], &[6, 2, 4, 8, 4, 2], &[6, 8]);
-    // else
-    circuit(4, 0, &[2, 4], &[6, 2, 4, 8, 4, 2], &[6, 8]);
-    // inputs 2, 4, gates 6(2,4), 8(6,0), root 8, trim and folding
-    circuit(4, TRIM + FOLD, &[2, 4], &[6, 2, 4, 8, 6, 0], &[8]);
-    // inputs 2, 4, gates 6(2,4), 8(2,5), trim, fairness 8, justice 6
-    circuit(4, TRIM, &[2, 4], &[6, 2, 4, 8, 2, 5], &[8, 6]);
-}
-
-// What is refused by a check or while walking, one reason at a time.
-fn refused() {
-    // gate 2(2,4), V=2, root 2
-    circuit(2, 0, &NONE, &[2, 2, 4], &[2]);
-    // gate 2(4,2), root 2
-    circuit(2, 0, &NONE, &[2, 4, 2], &[2]);
-    // inputs 2, 3
-    circuit(1, 0, &[2, 3], &NONE, &NONE);
-    // input 0
-    circuit(0, 0, &[0], &NONE, &NONE);
-    // input 2, latch state 2, next 0
-    latched(1, 0, &[2], &[2], &[0], &NONE, &NONE);
-    // a buffer of the program is too short: V=12
-    circuit(12, 0, &NONE, &NONE, &NONE);
-    // V is over its limit, and a buffer is too short
-    circuit(1048576, 0, &NONE, &NONE, &NONE);
-    // input 2, gate 3(0,0)
-    circuit(1, 0, &[2], &[3, 0, 0], &NONE);
-    // input 2, latch state 3
-    latched(1, 0, &[2], &[3], &[0], &NONE, &NONE);
-    // inputs 4, 5, latch state 0
-    latched(2, 0, &[4, 5], &[0], &[0], &NONE, &NONE);
-    // V=1, latch (8,9)
-    latched(1, 0, &NONE, &[8], &[9], &NONE, &NONE);
-    // V=1, gate 2(9,8)
-    circuit(1, 0, &NONE, &[2, 9, 8], &NONE);
-    // V=1, inputs 2, 2, root 9
-    circuit(1, 0, &[2, 2], &NONE, &[9]);
-    // latch states 2, 3
-    latched(1, 0, &NONE, &[2, 3], &[0, 0], &NONE, &NONE);
-}
-
-// The format paper's example circuits.
-fn papers() {
-    // constant false and true
-    circuit(0, 0, &NONE, &NONE, &[0, 1]);
-    // buffer and inverter
-    circuit(1, 0, &[2], &NONE, &[2, 3]);
-    // AND
-    circuit(3, 0, &[2, 4], &[6, 2, 4], &[6]);
-    // OR
-    circuit(3, 0, &[2, 4], &[6, 3, 5], &[7]);
-    // half adder
-    circuit(7, 0, &[2, 4], &[6, 13, 15, 12, 2, 4, 14, 3, 5], &[6, 12]);
-    // toggle flip-flop
-    latched(1, 0, &NONE, &[2], &[3], &NONE, &[2, 3]);
-    // toggle flip-flop with enable and reset
-    latched(
-        7,
-        0,
-        &[2, 4],
-        &[6],
-        &[8],
-        &[8, 4, 10, 10, 13, 15, 12, 2, 6, 14, 3, 7],
-        &[6, 7],
-    );
-}
-
-// Circuits on which a walk in another order, or with other tests, would answer otherwise.
-fn pinned() {
-    // gates 2(4,0) 4(2,0), root 2, trim
-    circuit(2, TRIM, &NONE, &[2, 4, 0, 4, 2, 0], &[2]);
-    // gates 2(4,0) 4(6,0) 6(5,0), root 2, trim
-    circuit(3, TRIM, &NONE, &[2, 4, 0, 4, 6, 0, 6, 5, 0], &[2]);
-    // gate 2(5,2), root 2
-    circuit(2, 0, &NONE, &[2, 5, 2], &[2]);
-    // input 2, gate 4(2,1), root 4, folding
-    circuit(2, FOLD, &[2], &[4, 2, 1], &[4]);
-    // inputs 2, 4, gates 6(2,4) 8(2,5), roots 8, 6
-    circuit(4, 0, &[2, 4], &[6, 2, 4, 8, 2, 5], &[8, 6]);
-    // input 2, latch (4,8), gates 6(2,4) 8(2,5), root 6, trim
-    latched(4, TRIM, &[2], &[4], &[8], &[6, 2, 4, 8, 2, 5], &[6]);
-    // inputs 2, 4, gates 6(2,4) 9(4,2), roots 8, 9, hashing
-    circuit(4, HASH, &[2, 4], &[6, 2, 4, 9, 4, 2], &[8, 9]);
-    // input 2, gate 4(0,6), root 4, folding
-    circuit(3, FOLD, &[2], &[4, 0, 6], &[4]);
-    // input 2, gate 4(0,4), root 4, folding
-    circuit(2, FOLD, &[2], &[4, 0, 4], &[4]);
+    say::counted(b" ", w as u64);
 }

@@ -21,35 +21,32 @@ pub fn run() {
     flipped(4294967294, 1);
 }
 
+// The code of a variable.
 fn doubled(index: u32) {
-    say::text(b"index ");
-    say::number(index as u64);
+    say::counted(b"index ", index as u64);
     match Var::from_index(index).lit() {
         Doubled::Code(l) => {
-            say::text(b" has the code ");
-            say::number(l.code() as u64);
+            say::counted(b" has the code ", l.code() as u64);
         }
         Doubled::TooBig => say::text(b" is too big for a code"),
     }
     say::line_end();
 }
 
+// The variable of a literal, whichever its sign.
 fn halved(code: u32) {
     let variable = Lit::from_code(code).var();
-    say::text(b"code ");
-    say::number(code as u64);
-    say::text(b" names the index ");
-    say::number(variable.index() as u64);
+    say::counted(b"code ", code as u64);
+    say::counted(b" names the index ", variable.index() as u64);
     say::line_end();
 }
 
+// A literal flipped by the sign of another: by an even code it stays,
+// and by an odd code its low bit changes.
 fn flipped(code: u32, by: u32) {
     let answer = Lit::from_code(code).flipped(Lit::from_code(by));
-    say::text(b"code ");
-    say::number(code as u64);
-    say::text(b" flipped by ");
-    say::number(by as u64);
-    say::text(b" is ");
-    say::number(answer.code() as u64);
+    say::counted(b"code ", code as u64);
+    say::counted(b" flipped by ", by as u64);
+    say::counted(b" is ", answer.code() as u64);
     say::line_end();
 }

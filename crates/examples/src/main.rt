@@ -1,15 +1,38 @@
-// Runs the documents' examples and prints a line for each. What is printed is held to the file `stdout` beside `src`, which was written from
-// the documents and not by this program.
+// Runs the documents' examples and prints a line for each. The literals' stand in `lits.rt`; the tokens' and the circuits' in the file `stdin`
+// beside `src`, a line each. What is printed is held to the file `stdout`, which was written from the documents and not by this program.
 mod circuits;
-mod encodings;
+mod fields;
+mod lists;
 mod lits;
 mod say;
 mod show;
 mod tokens;
 
+use bytes::scan::find;
+use libc::STDIN_FILENO;
+
 fn main() {
     lits::run();
-    tokens::run();
-    encodings::run();
-    circuits::run();
+    let mut examples = io::large_buffer();
+    let n = io::read_full(STDIN_FILENO, &mut examples);
+    lines(&examples[..n]);
+}
+
+// Each line but its newline, in turn.
+fn lines(s: &[u8]) {
+    let mut at = 0;
+    while at < s.len() {
+        let end = find(s, at, s.len(), b'\n');
+        line(&s[at..end]);
+        at = end + 1;
+    }
+}
+
+// The first letter tells a circuit from a token. A line that is empty or begins with `#` is for the reader.
+fn line(s: &[u8]) {
+    match fields::byte(s, 0) {
+        0 | b'#' => {}
+        b'V' => circuits::answer(s),
+        _ => tokens::answer(s),
+    }
 }

@@ -9,6 +9,12 @@ pub fn number(n: u64) {
     io::print_decimal(STDOUT_FILENO, n);
 }
 
+// A text and a number after it.
+pub fn counted(s: &[u8], n: u64) {
+    text(s);
+    number(n);
+}
+
 pub fn line_end() {
     text(b"\n");
 }

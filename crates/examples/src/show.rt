@@ -1,30 +1,14 @@
-// Bytes and tokens' answers on standard output.
+// Tokens' answers on standard output.
 use crate::say;
-use libc::STDOUT_FILENO;
 use token::PairToken;
 use token::Reason;
 use token::Token;
-
-// Each byte as a space and two hexadecimal digits.
-pub fn hex(s: &[u8]) {
-    let mut i = 0;
-    while i < s.len() {
-        byte(s[i]);
-        i += 1;
-    }
-}
-
-fn byte(b: u8) {
-    say::text(b" ");
-    io::print_hex(STDOUT_FILENO, b as u64, 2);
-}
 
 // `: VALUE in USED`, or what refused it, and the line's end.
 pub fn token(t: Token) {
     match t {
         Token::Value { value, used } => {
-            say::text(b": ");
-            say::number(value);
+            say::counted(b": ", value);
             ends_in(used);
         }
         Token::Refused { why, place } => refused(why, place),
@@ -39,10 +23,8 @@ pub fn pair(t: PairToken) {
             second,
             used,
         } => {
-            say::text(b": (");
-            say::number(first);
-            say::text(b", ");
-            say::number(second);
+            say::counted(b": (", first);
+            say::counted(b", ", second);
             say::text(b")");
             ends_in(used);
         }
@@ -51,15 +33,12 @@ pub fn pair(t: PairToken) {
 }
 
 fn ends_in(used: usize) {
-    say::text(b" in ");
-    say::number(used as u64);
+    say::counted(b" in ", used as u64);
     say::line_end();
 }
 
 fn refused(why: Reason, place: usize) {
-    say::text(b": refused ");
-    say::number(token::number(why) as u64);
-    say::text(b" at ");
-    say::number(place as u64);
+    say::counted(b": refused ", token::number(why) as u64);
+    say::counted(b" at ", place as u64);
     say::line_end();
 }

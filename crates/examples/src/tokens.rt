@@ -1,105 +1,85 @@
-// Document 01's token examples, and some at the edges that it names.
+// Tokens: prints an example's line and what the token that it names answers.
+ghost use Prim.Native.Nat.{_<_, _≤_};
+use crate::fields;
 use crate::say;
 use crate::show;
+use bytes::scan::find;
 
-pub fn run() {
-    decimals();
-    limited();
-    assigning();
-    deltas();
-    pairs();
+pub fn answer(line: &[u8]) {
+    let fifth = fields::byte(line, 4);
+    question(line, fifth);
+    named(line, fields::byte(line, 0), fifth);
 }
 
-fn uint(s: &[u8], at: usize) {
-    say::text(b"uint ");
-    say::text(s);
-    say::text(b" at ");
-    say::number(at as u64);
-    show::token(token::uint(s, at));
+// The line; of a gate of the half adder only the gate.
+fn question(line: &[u8], fifth: u8) {
+    if fifth == b'h' {
+        say::text(&line[0..find(line, 0, line.len(), b':')]);
+        return;
+    }
+    say::text(line);
 }
 
-fn decimals() {
-    uint(b"0", 0);
-    uint(b"00", 0);
-    uint(b"01", 0);
-    uint(b"18446744073709551615", 0);
-    uint(b"18446744073709551616", 0);
-    uint(b"018446744073709551616", 0);
-    uint(b"12x", 0);
-    uint(b"x12", 1);
-    uint(b"x12", 0);
-    uint(b"7", 1);
-    uint(b"7", 5);
-    uint(b"7", 18446744073709551615);
+// The first letter tells the tokens apart; the fifth tells `the half adder's gate` from `the paper's`, and `lit assigning` from `lit`.
+fn named(line: &[u8], first: u8, fifth: u8) {
+    match first {
+        b't' => paper(line, fifth),
+        b'l' => lit(line, fifth),
+        b'd' | b'p' => on_bytes(line, first, 3),
+        _ => on_text(line, first, 1),
+    }
 }
 
-fn limited() {
-    say::text(b"header_field 6, limit 6");
-    show::token(token::header_field(b"6", 0, 6));
-    say::text(b"header_field 7, limit 6");
-    show::token(token::header_field(b"7", 0, 6));
-    say::text(b"header_field 01, limit 6");
-    show::token(token::header_field(b"01", 0, 6));
-    say::text(b"symbol_index 6, limit 6");
-    show::token(token::symbol_index(b"6", 0, 6));
-    say::text(b"symbol_index 7, limit 6");
-    show::token(token::symbol_index(b"7", 0, 6));
-    say::text(b"symbol_index 18446744073709551616, limit 18446744073709551615");
-    show::token(token::symbol_index(b"18446744073709551616", 0, 18446744073709551615));
-    say::text(b"lit 7, limit 7");
-    show::token(token::lit(b"7", 0, 7, false));
-    say::text(b"lit 7, limit 6");
-    show::token(token::lit(b"7", 0, 6, false));
-    say::text(b"lit 0, limit 6");
-    show::token(token::lit(b"0", 0, 6, false));
+fn paper(line: &[u8], fifth: u8) {
+    if fifth == b'h' {
+        on_bytes(line, b'p', 5);
+        return;
+    }
+    on_bytes(line, b't', 2);
 }
 
-fn assigned(s: &[u8]) {
-    say::text(b"lit assigning ");
-    say::text(s);
-    say::text(b", limit 6");
-    show::token(token::lit(s, 0, 6, true));
+fn lit(line: &[u8], fifth: u8) {
+    if fifth == b'a' {
+        on_text(line, b'a', 2);
+        return;
+    }
+    on_text(line, b'l', 1);
 }
 
-fn assigning() {
-    assigned(b"6");
-    assigned(b"7");
-    assigned(b"8");
-    assigned(b"0");
-    assigned(b"9");
-    assigned(b"00");
-    assigned(b"18446744073709551617");
+// Bytes that begin with the word given, the number before them, and the place after them.
+fn on_bytes(line: &[u8], kind: u8, word: usize)
+    requires { ⌜ (0 < word) × (word ≤ 5) ⌝ }
+{
+    let mut room = [0u8; 8];
+    let n = fields::bytes(line, fields::word(line, word), &mut room);
+    let number = fields::number(line, fields::word(line, word - 1));
+    let place = fields::number(line, fields::word(line, word + n + 1));
+    of_bytes(kind, &room[..n], place as usize, number);
 }
 
-fn delta(s: &[u8]) {
-    say::text(b"delta from 6:");
-    show::hex(s);
-    show::token(token::delta_code(s, 0, 6));
+fn of_bytes(kind: u8, s: &[u8], at: usize, number: u64) {
+    match kind {
+        b'd' => show::token(token::delta_code(s, at, number)),
+        b't' => show::token(token::binary_uint(s, at)),
+        _ => show::pair(token::pair(s, at, number)),
+    }
 }
 
-fn deltas() {
-    delta(b"\x02");
-    delta(b"\x80\x00");
-    delta(b"\x07");
-    delta(b"\x80");
-    delta(b"\x80\x80\x80\x80\x80\x80\x80\x80");
-    delta(b"\x80\x80\x80\x80\x80\x80\x80");
-    delta(b"\x80\x80\x80\x80\x80\x80\x80\x00");
-    delta(b"");
+// A text, which is the word given, and the number two words on: the place of a `uint`, and the others' limit.
+fn on_text(line: &[u8], kind: u8, word: usize)
+    requires { ⌜ word ≤ 2 ⌝ }
+{
+    let from = fields::word(line, word);
+    let number = fields::number(line, fields::word(line, word + 2));
+    of_text(kind, &line[from..fields::word_end(line, from)], number);
 }
 
-fn pair(s: &[u8], at: usize) {
-    say::text(b"pair for 6:");
-    show::hex(s);
-    say::text(b" at ");
-    say::number(at as u64);
-    show::pair(token::pair(s, at, 6));
-}
-
-fn pairs() {
-    pair(b"\x00\x02", 0);
-    pair(b"\x02\x02", 0);
-    pair(b"\xff\x02\x05", 1);
-    pair(b"\x02", 0);
-    pair(b"\x07\x00", 0);
+fn of_text(kind: u8, s: &[u8], number: u64) {
+    match kind {
+        b'u' => show::token(token::uint(s, number as usize)),
+        b'h' => show::token(token::header_field(s, 0, number)),
+        b's' => show::token(token::symbol_index(s, 0, number)),
+        b'l' => show::token(token::lit(s, 0, number, false)),
+        _ => show::token(token::lit(s, 0, number, true)),
+    }
 }
