@@ -55,9 +55,9 @@ pub fn put_answer(said: Answer, answer: &mut [u32]) -> u32
             0
         }
         Answer::Refused(why) => {
-            let fault = circuit::literal(why);
+            let fault = refusals::literal(why);
             put_words(answer, fault.code(), 0, 0);
-            circuit::number(why)
+            refusals::number(why)
         }
     }
 }

@@ -83,9 +83,9 @@ fn shown(
         }
         Answer::Refused(why) => {
             say::text(b"refused ");
-            say::number(circuit::number(why) as u64);
+            say::number(refusals::number(why) as u64);
             say::text(b" ");
-            say::number(circuit::literal(why).code() as u64);
+            say::number(refusals::literal(why).code() as u64);
         }
     }
     say::text(b"; map");
