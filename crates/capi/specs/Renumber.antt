@@ -47,6 +47,13 @@ recordOf top counts flags =
 unfoldable pub misgiven : List ℕ → ℕ → Bool
 misgiven counts flags = not (eqb (length counts) 5) || ltb 7 flags
 
+-- what is refused before there is a circuit to check, as a number that is 0 where nothing is; and the answer words after it
+unfoldable pub firstNumber : List ℕ → ℕ → List ℕ → ℕ
+firstNumber counts flags words = cond (ltb (length words) 3) 3 (cond (misgiven counts flags) 2 0)
+
+unfoldable pub firstWords : List ℕ → ℕ → List ℕ → List ℕ
+firstWords counts flags words = cond (ltb (length words) 3) words (cond (misgiven counts flags) (onto (0 ∷ 0 ∷ 0 ∷ []) words) words)
+
 -- 0 for a success, document 01's number for a refusal
 abbrev pub answerNumber : Answer → ℕ
 answerNumber (Renumbered s) = 0

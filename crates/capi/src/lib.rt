@@ -5,8 +5,6 @@ ghost use mathlib.Core.Path.{_≡_};
 ghost use Rattle.delta_bytes.specs.Delta.{deltaNumber, deltaBytes};
 ghost use Rattle.circuit.specs.Outcome.{lentOf};
 ghost use Rattle.capi.specs.Renumber.{seenOf, recordOf, renumberSeen};
-use circuit::Answer;
-use circuit::Refusal;
 
 // One delta at a place: 0, with the value, low byte first, in the first eight lent bytes and the count of bytes used in the ninth; or a
 // refusal's number, and the lent bytes as they were. Fewer than nine lent bytes is refusal 3, tested first.
@@ -39,11 +37,9 @@ pub extern "C" fn imdagluz_renumber(
 ) -> u32
     ensures { λ r. ⌜ seenOf r (now (map .exit)) (now («next_images» .exit)) (now («root_images» .exit)) (now («gates_out» .exit)) (now (scratch .exit)) (now (answer .exit)) ≡ renumberSeen (now (counts .entry)) flags (lentOf (recordOf top (now (counts .entry)) flags) (now (inputs .entry)) (now (states .entry)) (now (nexts .entry)) (now (gates .entry)) (now (roots .entry)) (now (map .entry)) (now («next_images» .entry)) (now («root_images» .entry)) (now («gates_out» .entry)) (now (scratch .entry))) (now (answer .entry)) ⌝ }
 {
-    if answer.len() < 3 {
-        return 3;
-    }
-    if renumber::is_misgiven(counts, flags) {
-        return renumber::put_answer(Answer::Refused(Refusal::Misshapen), answer);
+    let first = renumber::refused_first(counts, flags, answer);
+    if first != 0 {
+        return first;
     }
     let said = aig::renumber(
         renumber::record_of(top, counts, flags),

@@ -4,13 +4,13 @@ ghost use mathlib.Core.List.{[], _∷_};
 ghost use Prim.Native.Nat.{_≤_};
 ghost use lib.ListN.{length};
 ghost use Rattle.circuit.specs.Outcome.{onto};
-ghost use Rattle.capi.specs.Renumber.{recordOf, misgiven, answerNumber, answerWords};
+ghost use Rattle.capi.specs.Renumber.{recordOf, misgiven, firstNumber, firstWords, answerNumber, answerWords};
 use circuit::Answer;
 use circuit::CircuitRecord;
 use lit::Var;
 
 // Whether there are not five counts, or the flags are over 7.
-pub fn is_misgiven(counts: &[u32], flags: u32) -> bool
+fn is_misgiven(counts: &[u32], flags: u32) -> bool
     ensures { λ r. ⌜ r ≡ misgiven (now (counts .entry)) flags ⌝ }
 {
     if counts.len() != 5 {
@@ -43,6 +43,21 @@ fn put_words(words: &mut [u32], literal: u32, made: u32, top: u32)
     words[2] = top;
 }
 
+// What is refused before there is a record to check: 3 where there are fewer than three answer words, which stay; then 2 where the counts or the
+// flags can't be taken, and the answer words say nothing; else 0, and they stay.
+pub fn refused_first(counts: &[u32], flags: u32, answer: &mut [u32]) -> u32
+    ensures { λ r. ⌜ (r ≡ firstNumber (now (counts .entry)) flags (now (answer .entry))) × (now (answer .exit) ≡ firstWords (now (counts .entry)) flags (now (answer .entry))) ⌝ }
+{
+    if answer.len() < 3 {
+        return 3;
+    }
+    if is_misgiven(counts, flags) {
+        put_words(answer, 0, 0, 0);
+        return 2;
+    }
+    0
+}
+
 // The answer's number, and its three words in the lent ones.
 pub fn put_answer(said: Answer, answer: &mut [u32]) -> u32
     requires { ⌜ 3 ≤ length (now answer) ⌝ }
@@ -55,9 +70,9 @@ pub fn put_answer(said: Answer, answer: &mut [u32]) -> u32
             0
         }
         Answer::Refused(why) => {
-            let fault = circuit::literal(why);
+            let fault = refusals::literal(why);
             put_words(answer, fault.code(), 0, 0);
-            circuit::number(why)
+            refusals::number(why)
         }
     }
 }

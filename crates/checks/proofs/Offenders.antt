@@ -1,5 +1,7 @@
 -- Laws of check 4 in the code's own terms: a list is searched a code a turn, and the lists one after another. Assumes nothing.
-use Prim.Native.Nat.{ℕ, _+_, _*_, _%_, _<_, _≤_}
+use Prim.Native.Nat.{ℕ, _+_, _-_, _*_, _%_, _^_, _<_, _≤_}
+use mir.Syntax.{w64}
+use mir.Val.{Fits}
 use mathlib.Core.Path.{_≡_, refl, sym, ap, _∙_}
 use mathlib.Core.Bool.{Bool, true, false, cond}
 use mathlib.Core.Option.{some}
@@ -17,13 +19,31 @@ use Rattle.checks.specs.declared.Found.the-variants.{Literal, Nothing}
 use Rattle.checks.specs.Checks.{found, Shaped}
 use Rattle.lent.proofs.Rows.{drop-at-one, drop-at-end}
 
--- one list
-pub over-here : (bound : ℕ) (cs : List ℕ) (i : ℕ) (x : Lit) → i < length cs → bound < getD cs i 0 → x ≡ literal (getD cs i 0)
-    → Literal x ≡ found (firstOver bound (drop i cs))
-over-here bound cs i x h p e = rw (drop-at-one cs i 0 h, lt-leb _ _ p) (ap Literal e)
+-- a turn of a loop over n words of four bytes
+module _ {i n : ℕ} (h : i < n) where
+  pub turn-fits : n * 4 < 2 ^ 63 → Fits w64 (i + 1)
+  turn-fits k = record { fits = omega arith }
 
-pub over-on : (bound : ℕ) (cs : List ℕ) (i : ℕ) → i < length cs → getD cs i 0 ≤ bound → firstOver bound (drop i cs) ≡ firstOver bound (drop (i + 1) cs)
-over-on bound cs i h p = rw (drop-at-one cs i 0 h, le-leb _ _ p)
+  pub turn-within : i + 1 ≤ n
+  turn-within = omega arith
+
+  pub turn-nearer : n - (i + 1) < n - i
+  turn-nearer = omega arith
+
+-- a word w that is read as the number that stands there
+over-word : {bound w c : ℕ} → w ≡ c → bound < w → bound < c
+over-word e h = omega arith
+
+within-word : {bound w c : ℕ} → w ≡ c → w ≤ bound → c ≤ bound
+within-word e h = omega arith
+
+-- one list
+pub over-here : (bound : ℕ) (cs : List ℕ) (i w : ℕ) (x : Lit) → i < length cs → w ≡ getD cs i 0 → bound < w → x ≡ literal (getD cs i 0)
+    → Literal x ≡ found (firstOver bound (drop i cs))
+over-here bound cs i w x h s p e = rw (drop-at-one cs i 0 h, lt-leb _ _ (over-word s p)) (ap Literal e)
+
+pub over-on : (bound : ℕ) (cs : List ℕ) (i w : ℕ) → i < length cs → w ≡ getD cs i 0 → w ≤ bound → firstOver bound (drop i cs) ≡ firstOver bound (drop (i + 1) cs)
+over-on bound cs i w h s p = rw (drop-at-one cs i 0 h, le-leb _ _ (within-word s p))
 
 pub over-end : (bound : ℕ) (cs : List ℕ) (i : ℕ) → length cs ≤ i → Nothing ≡ found (firstOver bound (drop i cs))
 over-end bound cs i h = rw (drop-at-end cs i h)
@@ -33,15 +53,17 @@ module _ (bound : ℕ) (ss ns : List ℕ) (i : ℕ) where
   abbrev pub left : List ℕ
   left = latchCodes (drop i ss) (drop i ns)
 
-  module _ (h : i < length ss) (k : i < length ns) where
-    pub latch-state : (x : Lit) → bound < getD ss i 0 → x ≡ literal (getD ss i 0) → Literal x ≡ found (firstOver bound left)
-    latch-state x p e = rw (drop-at-one ss i 0 h, drop-at-one ns i 0 k, lt-leb _ _ p) (ap Literal e)
+  module _ (h : i < length ss) (k : i < length ns) (s : ℕ) (es : s ≡ getD ss i 0) where
+    pub latch-state : (x : Lit) → bound < s → x ≡ literal (getD ss i 0) → Literal x ≡ found (firstOver bound left)
+    latch-state x p e = rw (drop-at-one ss i 0 h, drop-at-one ns i 0 k, lt-leb _ _ (over-word es p)) (ap Literal e)
 
-    pub latch-next : (x : Lit) → getD ss i 0 ≤ bound → bound < getD ns i 0 → x ≡ literal (getD ns i 0) → Literal x ≡ found (firstOver bound left)
-    latch-next x q p e = rw (drop-at-one ss i 0 h, drop-at-one ns i 0 k, le-leb _ _ q, lt-leb _ _ p) (ap Literal e)
+    module _ (q : s ≤ bound) (n : ℕ) (en : n ≡ getD ns i 0) where
+      pub latch-next : (x : Lit) → bound < n → x ≡ literal (getD ns i 0) → Literal x ≡ found (firstOver bound left)
+      latch-next x p e =
+          rw (drop-at-one ss i 0 h, drop-at-one ns i 0 k, le-leb _ _ (within-word es q), lt-leb _ _ (over-word en p)) (ap Literal e)
 
-    pub latch-on : getD ss i 0 ≤ bound → getD ns i 0 ≤ bound → firstOver bound left ≡ firstOver bound (latchCodes (drop (i + 1) ss) (drop (i + 1) ns))
-    latch-on q p = rw (drop-at-one ss i 0 h, drop-at-one ns i 0 k, le-leb _ _ q, le-leb _ _ p)
+      pub latch-on : n ≤ bound → firstOver bound left ≡ firstOver bound (latchCodes (drop (i + 1) ss) (drop (i + 1) ns))
+      latch-on p = rw (drop-at-one ss i 0 h, drop-at-one ns i 0 k, le-leb _ _ (within-word es q), le-leb _ _ (within-word en p))
 
   pub latch-short : i < length ss → length ns ≤ i → Nothing ≡ found (firstOver bound left)
   latch-short h k = rw (drop-at-one ss i 0 h, drop-at-end ns i k)

@@ -23,4 +23,3 @@ pub mod Map
 pub mod Words
 pub mod Lists
 pub mod Tests
-pub mod Theorems

@@ -100,8 +100,8 @@ fn outcome(answer: Answer) {
             say::counted(b", largest ", summary.top.index() as u64);
         }
         Answer::Refused(why) => {
-            say::counted(b"refused ", circuit::number(why) as u64);
-            say::counted(b" ", circuit::literal(why).code() as u64);
+            say::counted(b"refused ", refusals::number(why) as u64);
+            say::counted(b" ", refusals::literal(why).code() as u64);
         }
     }
 }

@@ -124,9 +124,9 @@ pub fn print_ordered(
 pub fn print_refused(why: Refusal, out: &mut [u8]) -> usize
     ensures { λ r. ⌜ Put (now (out .entry)) 0 (refusedText why) (now (out .exit)) r ⌝ }
 {
-    let number = circuit::number(why);
+    let number = refusals::number(why);
     if number <= 8 {
-        let l = circuit::literal(why);
+        let l = refusals::literal(why);
         return put_refused(out, wide(number), wide(l.code()));
     }
     put_refused(out, wide(number), 0)

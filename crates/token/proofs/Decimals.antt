@@ -2,20 +2,22 @@
 use mathlib.Core.Path.{_≡_, refl, sym, ap, _∙_}
 use mathlib.Core.Bool.{Bool, true, false, _&&_, and-false}
 use mathlib.Core.List.{List, [], _∷_, _++_}
-use Prim.Native.Nat.{ℕ, suc, _+_, _-_, _*_, _^_, _≤_, _<_}
+use Prim.Native.Nat.{ℕ, suc, _+_, _-_, _*_, _/_, _^_, _≤_, _<_}
+use mir.Syntax.{w64}
+use mir.Val.{Fits}
 use native.Mathlib.Nat.{add-zero}
 use native.Mathlib.Omega.{arith}
 use native.Mathlib.Numerals.{add-one}
 use lib.Dec.{ltb, leb}
 use lib.ListN.{length, getD, take, drop, length-drop}
 use lib.Seq.{take-suc, take-add, getD-drop, drop-cons}
-use borrow.Author.Tests.{leb-true, leb-false, ltb-true, le-leb, lt-leb, lt-ltb, le-ltb, ne-eqb}
+use borrow.Author.Tests.{leb-true, leb-false, ltb-true, ltb-false, le-leb, lt-leb, lt-ltb, le-ltb, ne-eqb}
 use Rattle.token.specs.Format.{leading, isDigit, decimalFrom, decimalValue}
 use Rattle.token.specs.Answer.{digitsAt, fitting, uintAt}
 use Rattle.token.specs.declared.Reason.the-variants.{NoDigit, LeadingZero, OverWidth}
 use Rattle.token.specs.declared.Token.{Token}
 use Rattle.token.specs.declared.Token.the-variants.{Value, Refused}
-use Rattle.token.proofs.Runs.{leading-le, leading-at, run-more, run-stop, run-end}
+use Rattle.token.proofs.Runs.{leading-le, leading-at}
 
 -- a digit, and what is none
 
@@ -103,53 +105,75 @@ pub record DigitsPassed (s : List ℕ) (at n v : ℕ) : Type 0 where
   pub inside : at + n ≤ length s
   pub fits : v < 2 ^ 64
   pub means : v ≡ decimalValue (take n (drop at s))
-  pub rest : digitsAt s at ≡ n + leading isDigit (drop n (drop at s))
+  pub rest : digitsAt s at ≡ n + digitsAt s (at + n)
 
 pub digits-passed-none : (s : List ℕ) (at : ℕ) → at ≤ length s → DigitsPassed s at 0 0
-unfolding digitsAt
-digits-passed-none s at h = record { inside = omega arith; fits = omega arith; means = refl; rest = omega arith }
+digits-passed-none s at h = record { inside = omega arith; fits = omega arith; means = refl; rest = rw (add-zero at) (omega arith) }
 
 -- what `decimal` is to answer
 abbrev pub decimalAt : List ℕ → ℕ → Token
 decimalAt s at = fitting (decimalValue (take (digitsAt s at) (drop at s))) (digitsAt s at) at
 
 module _ {s : List ℕ} {at n v : ℕ} (p : DigitsPassed s at n v) where
-  -- all are passed
-  digits-passed-all : n ≡ digitsAt s at → Value v n ≡ decimalAt s at
-  digits-passed-all e = rw (← e, ← p .means, lt-ltb v (2 ^ 64) (p .fits))
+  -- the place reached is one, and a turn more comes to another, where the bytes are fewer than 2 ^ 63
+  pub digits-passed-place : length s * 1 < 2 ^ 63 → Fits w64 (at + n)
+  digits-passed-place room = record { fits = omega (arith, p .inside) }
 
-  pub digits-passed-end : length s ≤ at + n → Value v n ≡ decimalAt s at
-  digits-passed-end h = digits-passed-all (run-end isDigit (drop at s) n _ (p .rest) (simp length-drop (omega arith)))
+  pub digits-passed-count : length s * 1 < 2 ^ 63 → Fits w64 (n + 1)
+  digits-passed-count room = record { fits = omega (arith, p .inside) }
 
-  module _ (there : at + n < length s) where
-    here : n < length (drop at s)
-    here = simp length-drop (omega arith)
+  -- no digit stands there: all are passed
+  pub digits-passed-end : {t : Bool} → t ≡ ltb 0 (digitsAt s (at + n)) → t ≡ false → Value v n ≡ decimalAt s at
+  digits-passed-end told left =
+      let none : digitsAt s (at + n) ≤ 0 = ltb-false 0 (digitsAt s (at + n)) (sym told ∙ left) in
+      let all : n ≡ digitsAt s at = omega (arith, p .rest) in
+      rw (← all, ← p .means, lt-ltb v (2 ^ 64) (p .fits))
 
-    byte-here : getD (drop at s) n 0 ≡ getD s (at + n) 0
-    byte-here = getD-drop at s n 0
+  -- a digit stands there
+  module _ {t : Bool} (told : t ≡ ltb 0 (digitsAt s (at + n))) (yes : t ≡ true) where
+    some : 0 < digitsAt s (at + n)
+    some = ltb-true 0 (digitsAt s (at + n)) (sym told ∙ yes)
 
-    digits-passed-stop : isDigit (getD s (at + n) 0) ≡ false → Value v n ≡ decimalAt s at
-    digits-passed-stop y = digits-passed-all (run-stop isDigit (drop at s) n _ (p .rest) (getD s (at + n) 0) here byte-here y)
+    pub digit-there : at + n < length s
+    digit-there = digits-some s (at + n) some .0
 
-    -- the byte is below `0`, or past `9`
-    pub digits-passed-below : getD s (at + n) 0 < 48 → Value v n ≡ decimalAt s at
-    digits-passed-below h = digits-passed-stop (digit-under (getD s (at + n) 0) h)
+    digit-is : (48 ≤ getD s (at + n) 0) × (getD s (at + n) 0 < 58)
+    digit-is = digit-low (getD s (at + n) 0) (digits-some s (at + n) some .1)
 
-    pub digits-passed-past : 58 ≤ getD s (at + n) 0 → Value v n ≡ decimalAt s at
-    digits-passed-past h = digits-passed-stop (digit-over (getD s (at + n) 0) h)
+    pub digit-least : 48 ≤ getD s (at + n) 0
+    digit-least = digit-is .0
 
-    -- the byte is the digit d
-    module _ {d : ℕ} (low : 48 ≤ getD s (at + n) 0) (high : getD s (at + n) 0 < 58) (digit : d ≡ getD s (at + n) 0 - 48) where
-      digit-more : digitsAt s at ≡ n + 1 + leading isDigit (drop (n + 1) (drop at s))
-      digit-more = run-more isDigit (drop at s) n _ (p .rest) (getD s (at + n) 0) here byte-here (digit-yes (getD s (at + n) 0) low high)
+    pub digit-nearer : length s - (at + (n + 1)) < length s - (at + n)
+    digit-nearer = omega (arith, digit-there)
+
+    -- it is the digit d
+    module _ {d : ℕ} (digit : d ≡ getD s (at + n) 0 - 48) where
+      digit-more : digitsAt s at ≡ n + 1 + digitsAt s (at + (n + 1))
+      digit-more =
+          let one : digitsAt s (at + n) ≡ suc (digitsAt s (at + n + 1)) = digits-more s (at + n) (getD s (at + n) 0) digit-there refl (digits-some s (at + n) some .1) in
+          let next : at + n + 1 ≡ at + (n + 1) = omega arith in
+          rw (← next) (omega (arith, p .rest))
 
       writes : v * 10 + d ≡ decimalValue (take (n + 1) (drop at s))
-      writes = rw (digit, ← byte-here, p .means) (sym (decimal-next (drop at s) n here))
+      writes =
+          let here : n < length (drop at s) = simp length-drop (omega (arith, digit-there)) in
+          rw (digit, ← getD-drop at s n 0, p .means) (sym (decimal-next (drop at s) n here))
 
-      pub digits-passed-digit : v * 10 + d < 2 ^ 64 → DigitsPassed s at (n + 1) (v * 10 + d)
-      digits-passed-digit h = record { inside = omega arith; fits = h; means = writes; rest = digit-more }
+      pub digit-small : d ≤ 18446744073709551615
+      digit-small = omega (arith, digit-is)
 
-      pub digits-passed-over : 2 ^ 64 ≤ v * 10 + d → Refused OverWidth at ≡ decimalAt s at
+      -- it fits
+      pub digit-tens : v ≤ (18446744073709551615 - d) / 10 → Fits w64 (v * 10)
+      digit-tens h = record { fits = omega arith }
+
+      pub digit-added : v ≤ (18446744073709551615 - d) / 10 → Fits w64 (v * 10 + d)
+      digit-added h = record { fits = omega (arith, digit-is) }
+
+      pub digits-passed-digit : v ≤ (18446744073709551615 - d) / 10 → DigitsPassed s at (n + 1) (v * 10 + d)
+      digits-passed-digit h = record { inside = omega (arith, digit-there); fits = digit-added h .fits; means = writes; rest = digit-more }
+
+      -- or it does not
+      pub digits-passed-over : (18446744073709551615 - d) / 10 < v → Refused OverWidth at ≡ decimalAt s at
       digits-passed-over h =
           let more : decimalValue (take (n + 1) (drop at s)) ≤ decimalValue (take (digitsAt s at) (drop at s)) = decimal-part (drop at s) (n + 1) (digitsAt s at) (omega (arith, digit-more)) in
           rw (le-ltb (decimalValue (take (digitsAt s at) (drop at s))) (2 ^ 64) (omega (arith, writes)))

@@ -2,7 +2,9 @@
 use mathlib.Core.Path.{_≡_, refl}
 use mathlib.Core.Bool.{Bool, true, false, cond}
 use mathlib.Core.List.{List}
-use Prim.Native.Nat.{ℕ, _+_, _-_, _≤_, _<_}
+use Prim.Native.Nat.{ℕ, _+_, _-_, _*_, _^_, _≤_, _<_}
+use mir.Syntax.{w64}
+use mir.Val.{Fits}
 use native.Mathlib.Omega.{arith}
 use lib.Dec.{leb}
 use lib.ListN.{length, take}
@@ -70,6 +72,10 @@ delta-from s at reference v n e = go (binaryAt s at) refl e
 
 pub delta-used : (s : List ℕ) (at reference v n : ℕ) → deltaAt s at reference ≡ Value v n → Used s at n
 delta-used s at reference v n e = binary-used s at (reference - v) n (delta-from s at reference v n e .1)
+
+-- the place after its bytes is one, where the bytes are fewer than 2 ^ 63
+pub delta-place : (s : List ℕ) (at reference v n : ℕ) → deltaAt s at reference ≡ Value v n → length s * 1 < 2 ^ 63 → Fits w64 (at + n)
+delta-place s at reference v n e room = let u = delta-used s at reference v n e in record { fits = omega (arith, u .inside) }
 
 -- a gate's pair that is read: two deltas, the second from the first's value and at the place after its bytes
 pub record Paired (s : List ℕ) (at code a b used : ℕ) : Type 0 where

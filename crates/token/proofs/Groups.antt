@@ -6,6 +6,8 @@ use native.Mathlib.Nat.{pow-suc, one-le-pow, pow-le-pow-right, mul-assoc, mul-le
 use native.Mathlib.Omega.{arith}
 use native.Mathlib.Numerals.{add-one}
 use lib.Dec.{lit<, lit≤}
+use mir.Syntax.{w8, w64}
+use mir.Val.{Fits}
 use lib.ListN.{length, getD, take, drop, length-take, length-drop}
 use lib.Seq.{take-suc, take-take, getD-take, getD-drop, length-take-le}
 use borrow.Author.Tests.{le-leb, lt-leb}
@@ -14,6 +16,29 @@ use Rattle.token.specs.Answer.{goOnAt, binaryAt}
 use Rattle.token.specs.declared.Reason.the-variants.{Cut, TooLong}
 use Rattle.token.specs.declared.Token.the-variants.{Value, Refused}
 use Rattle.token.proofs.Runs.{run-more, run-stop, run-end}
+
+-- a turn over m bytes from a place on, n of them passed, room of them in all
+
+module _ (at : ℕ) {m n room : ℕ} (whole : at + room ≡ m) where
+  pub turn-past : room ≤ n → m ≤ at + n
+  turn-past h = omega arith
+
+  module _ (more : n < room) where
+    pub turn-there : at + n < m
+    turn-there = omega arith
+
+    pub turn-place : m * 1 < 2 ^ 63 → Fits w64 (at + n)
+    turn-place h = record { fits = omega arith }
+
+pub turn-within : {n room : ℕ} → n < room → n + 1 ≤ room
+turn-within h = omega arith
+
+pub turn-nearer : {n room : ℕ} → n < room → room - (n + 1) < room - n
+turn-nearer h = omega arith
+
+-- the bytes before a place and those from it on are all
+pub room-whole : {m at : ℕ} → at < m → at + (m - at) ≡ m
+room-whole h = omega arith
 
 -- the number that groups write
 
@@ -67,6 +92,21 @@ module _ {s : List ℕ} {at n v w : ℕ} (p : GroupsPassed s at n v w) where
   pub group-small : (g : ℕ) → g < 128 → g * w ≤ 127 * 128 ^ 7
   group-small g h = let few : g ≤ 127 = omega arith in mul-le-mul few (groups-passed-small .0)
 
+  -- a turn counts on without wrapping, and the next weight fits
+  pub groups-passed-count : Fits w64 (n + 1)
+  groups-passed-count = record { fits = omega (arith, p .few) }
+
+  pub groups-passed-weight : Fits w64 (w * 128)
+  groups-passed-weight = record { fits = omega (arith, groups-passed-small) }
+
+  -- the group g at this weight fits, and so does the value with it
+  module _ {g : ℕ} (h : g < 128) where
+    pub group-fits : Fits w64 (g * w)
+    group-fits = record { fits = omega (arith, group-small g h) }
+
+    pub group-added : Fits w64 (v + g * w)
+    group-added = record { fits = omega (arith, groups-passed-small, group-small g h) }
+
   pub groups-passed-cut : length s ≤ at + n → Refused Cut at ≡ binaryAt s at
   unfolding binaryAt
   groups-passed-cut h =
@@ -95,6 +135,9 @@ module _ {s : List ℕ} {at n v w : ℕ} (p : GroupsPassed s at n v w) where
         rw (← all, lt-leb 8 n (omega (arith, p .few)), lt-leb (length (eightAt s at)) n here, part, ← writes, low)
 
     module _ (on : 128 ≤ b) where
+      pub group-low : Fits w8 (getD s (at + n) 0) → b - 128 < 128
+      group-low small = omega (arith, small .fits)
+
       goes-on : goOnAt s at ≡ n + 1 + leading goesOn (drop (n + 1) (eightAt s at))
       goes-on = run-more goesOn (eightAt s at) n _ (p .rest) b here byte-here (le-leb 128 b on)
 
@@ -102,12 +145,12 @@ module _ {s : List ℕ} {at n v w : ℕ} (p : GroupsPassed s at n v w) where
       unfolding binaryAt
       groups-passed-long e = rw (le-leb 8 (goOnAt s at) (omega (arith, goes-on)))
 
-      pub groups-passed-group : b < 256 → n < 7 → GroupsPassed s at (n + 1) (v + (b - 128) * w) (w * 128)
+      pub groups-passed-group : Fits w8 (getD s (at + n) 0) → (n ≡ 7 → ⊥) → GroupsPassed s at (n + 1) (v + (b - 128) * w) (w * 128)
       groups-passed-group small h =
-          let low : b % 128 ≡ b - 128 = omega arith in
+          let low : b % 128 ≡ b - 128 = omega (arith, small .fits) in
           record {
             inside = omega arith;
-            few = omega arith;
+            few = omega (arith, p .few);
             weighs = rw (add-one, pow-suc, p .weighs);
             means = rw (← low) writes;
             rest = goes-on;

@@ -85,32 +85,17 @@ fn decimal(s: &[u8], at: usize) -> Token
     requires { ⌜ at ≤ length (now s) ⌝ }
     ensures { λ r. ⌜ r ≡ fitting (decimalValue (take (digitsAt (now (s .entry)) at) (drop at (now (s .entry))))) (digitsAt (now (s .entry)) at) at ⌝ }
 {
-    let room = s.len() - at;
     let mut n: usize = 0;
     let mut v: u64 = 0;
-    while n < room {
-        let b = s[at + n];
-        if b < b'0' {
-            return Token::Value { value: v, used: n };
-        }
-        if b'9' < b {
-            return Token::Value { value: v, used: n };
-        }
-        let d = wide(b - b'0');
-        if LARGEST / 10 < v {
+    while digit_at(s, at + n) {
+        let d = wide(s[at + n] - b'0');
+        if (LARGEST - d) / 10 < v {
             return Token::Refused {
                 why: Reason::OverWidth,
                 place: at,
             };
         }
-        let t = v * 10;
-        if LARGEST - t < d {
-            return Token::Refused {
-                why: Reason::OverWidth,
-                place: at,
-            };
-        }
-        v = t + d;
+        v = v * 10 + d;
         n += 1;
     }
     Token::Value { value: v, used: n }
@@ -194,7 +179,7 @@ fn taken_from(t: Token, reference: u64, at: usize) -> Token
                 }
             }
         }
-        Token::Refused { why, place } => Token::Refused { why, place },
+        Token::Refused { why: _, place: _ } => t,
     }
 }
 
@@ -211,9 +196,9 @@ fn held_to(t: Token, limit: u64, at: usize) -> Token
     ensures { λ r. ⌜ r ≡ within limit at t ⌝ }
 {
     match t {
-        Token::Value { value, used } => {
+        Token::Value { value, used: _ } => {
             if value <= limit {
-                Token::Value { value, used }
+                t
             } else {
                 Token::Refused {
                     why: Reason::OverLimit,
@@ -221,7 +206,7 @@ fn held_to(t: Token, limit: u64, at: usize) -> Token
                 }
             }
         }
-        Token::Refused { why, place } => Token::Refused { why, place },
+        Token::Refused { why: _, place: _ } => t,
     }
 }
 
@@ -230,7 +215,7 @@ fn assignable(t: Token, at: usize) -> Token
     ensures { λ r. ⌜ r ≡ assigned at t ⌝ }
 {
     match t {
-        Token::Value { value, used } => {
+        Token::Value { value, used: _ } => {
             if value == 0 {
                 return Token::Refused {
                     why: Reason::AssignsZero,
@@ -244,9 +229,9 @@ fn assignable(t: Token, at: usize) -> Token
                     place: at,
                 };
             }
-            Token::Value { value, used }
+            t
         }
-        Token::Refused { why, place } => Token::Refused { why, place },
+        Token::Refused { why: _, place: _ } => t,
     }
 }
 
@@ -296,9 +281,10 @@ pub fn pair(s: &[u8], at: usize, code: u64) -> PairToken
     ensures { λ r. ⌜ r ≡ pairAt (now (s .entry)) at code ⌝ }
 {
     match delta_code(s, at, code) {
-        Token::Value { value, used } => {
-            let first = value;
-            let n = used;
+        Token::Value {
+            value: first,
+            used: n,
+        } => {
             match delta_code(s, at + n, first) {
                 Token::Value { value, used } => inputs(code, at, first, n, value, used),
                 Token::Refused { why, place } => PairToken::PairRefused { why, place },

@@ -4,7 +4,7 @@ use Rattle.capi.proofs.imdagluz_delta.Statement.{statement}
 use Rattle.capi.proofs.imdagluz_delta.Tie as tie
 
 put-delta-requires : tie.Need-put-delta-requires
-put-delta-requires c κs = search needs
+put-delta-requires c κs = tt
 
 same-length : tie.Need-same-length
 same-length c = search needs

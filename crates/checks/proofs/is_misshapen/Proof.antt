@@ -1,5 +1,4 @@
--- `limits::is_misshapen` meets its contract: each test decides one part of the definition's disjunction. Assumes nothing.
-use borrow.Author.Needs.{needs}
+-- `is_misshapen` meets its contract: each test decides one part of the definition's disjunction. Assumes nothing.
 use Rattle.checks.proofs.is_misshapen.Statement.{statement}
 use Rattle.checks.proofs.is_misshapen.Tie as tie
 use denote.Ref.{now}
@@ -8,16 +7,16 @@ use mathlib.Core.List.{[]}
 use Rattle.checks.proofs.Sizes.{shape-counts, shape-latches, shape-gates}
 
 sum-requires : tie.Need-sum-requires
-sum-requires c κs = search needs
+sum-requires c κs = tt
 
 returns : tie.Need-returns
-returns c = shape-counts (lentOf (c .before .before .before .before .before .before .before .args .circuit) [] (now (c .before .before .before .before .before .before .before .args .states)) (now (c .before .before .before .before .before .before .before .args .nexts)) (now (c .before .before .before .before .before .before .before .args .gates)) (now (c .before .before .before .before .before .before .before .args .roots)) [] [] [] [] []) (c .before .sum .result) (cc) (c .if1 .taken)
+returns c = let a = c .before .before .before .before .before .before .before .args in shape-counts (lentOf (a .circuit) [] (now (a .states)) (now (a .nexts)) (now (a .gates)) (now (a .roots)) [] [] [] [] []) _ (c .before .sum .ensures) (c .if1 .taken)
 
 returns-2 : tie.Need-returns-2
-returns-2 c = shape-latches (lentOf (c .before .before .before .before .before .before .before .before .args .circuit) [] (now (c .before .before .before .before .before .before .before .before .args .states)) (now (c .before .before .before .before .before .before .before .before .args .nexts)) (now (c .before .before .before .before .before .before .before .before .args .gates)) (now (c .before .before .before .before .before .before .before .before .args .roots)) [] [] [] [] []) (c .before .before .sum .result) (cc) (c .before .if1 .left) (c .if2 .taken)
+returns-2 c = let a = c .before .before .before .before .before .before .before .before .args in shape-latches (lentOf (a .circuit) [] (now (a .states)) (now (a .nexts)) (now (a .gates)) (now (a .roots)) [] [] [] [] []) _ (c .before .before .sum .ensures) (c .before .if1 .left) (c .if2 .taken)
 
 returns-3 : tie.Need-returns-3
-returns-3 c = shape-gates (lentOf (c .before .before .before .before .before .before .before .before .args .circuit) [] (now (c .before .before .before .before .before .before .before .before .args .states)) (now (c .before .before .before .before .before .before .before .before .args .nexts)) (now (c .before .before .before .before .before .before .before .before .args .gates)) (now (c .before .before .before .before .before .before .before .before .args .roots)) [] [] [] [] []) (c .before .before .sum .result) (cc) (c .before .if1 .left) (c .if2 .left)
+returns-3 c = let a = c .before .before .before .before .before .before .before .before .args in shape-gates (lentOf (a .circuit) [] (now (a .states)) (now (a .nexts)) (now (a .gates)) (now (a .roots)) [] [] [] [] []) _ (c .before .before .sum .ensures) (c .before .if1 .left) (c .if2 .left)
 
 pub is-misshapen-spec : {M : Type 1} → statement M
 is-misshapen-spec = tie.close (tie.spec sum-requires returns returns-2 returns-3)

@@ -1,39 +1,36 @@
--- `limits::is_short` meets its contract: each test decides one part of the definition's disjunction. Assumes nothing.
+-- `is_short` meets its contract: each test decides one part of the definition's disjunction. Assumes nothing.
 use borrow.Author.Needs.{needs}
 use Rattle.checks.proofs.is_short.Statement.{statement}
 use Rattle.checks.proofs.is_short.Tie as tie
-use native.Mathlib.Omega.{arith}
 use denote.Ref.{now}
-use Prim.Native.Nat.{_/_}
-use mathlib.Core.Path.{refl}
+use mathlib.Core.Path.{refl, _∙_}
 use Rattle.circuit.specs.Outcome.{lentOf}
-use lib.ListN.{length}
 use mathlib.Core.List.{[]}
 use Rattle.checks.proofs.Sizes.{short-map, short-nexts, short-roots, short-gates, short-scratch}
 
 index-requires : tie.Need-index-requires
-index-requires c κs = search needs
+index-requires c κs = tt
 
 wide-requires : tie.Need-wide-requires
-wide-requires c κs = search needs
+wide-requires c κs = tt
 
 add-if1 : tie.Need-add-if1
 add-if1 c = search needs
 
 returns : tie.Need-returns
-returns c = short-map (lentOf (c .before .before .before .before .before .before .before .before .before .before .before .before .args .circuit) [] (now (c .before .before .before .before .before .before .before .before .before .before .before .before .args .states)) [] (now (c .before .before .before .before .before .before .before .before .before .before .before .before .args .gates)) (now (c .before .before .before .before .before .before .before .before .before .before .before .before .args .roots)) (now (c .before .before .before .before .before .before .before .before .before .before .before .before .args .map)) (now (c .before .before .before .before .before .before .before .before .before .before .before .before .args .next-images)) (now (c .before .before .before .before .before .before .before .before .before .before .before .before .args .root-images)) (now (c .before .before .before .before .before .before .before .before .before .before .before .before .args .gates-out)) (now (c .before .before .before .before .before .before .before .before .before .before .before .before .args .scratch))) (c .before .wide .result) (length (now (c .before .before .before .before .before .before .before .before .before .before .before .before .args .gates)) / 3) (cc) refl (omega arith)
+returns c = let a = c .before .before .before .before .before .before .before .before .before .before .before .before .args in short-map (lentOf (a .circuit) [] (now (a .states)) [] (now (a .gates)) (now (a .roots)) (now (a .map)) (now (a .next-images)) (now (a .root-images)) (now (a .gates-out)) (now (a .scratch))) _ _ (c .before .wide .ensures ∙ c .before .before .index .ensures) refl (c .if1 .taken)
 
 returns-2 : tie.Need-returns-2
-returns-2 c = short-nexts (lentOf (c .before .before .before .before .before .before .before .before .before .before .before .before .before .args .circuit) [] (now (c .before .before .before .before .before .before .before .before .before .before .before .before .before .args .states)) [] (now (c .before .before .before .before .before .before .before .before .before .before .before .before .before .args .gates)) (now (c .before .before .before .before .before .before .before .before .before .before .before .before .before .args .roots)) (now (c .before .before .before .before .before .before .before .before .before .before .before .before .before .args .map)) (now (c .before .before .before .before .before .before .before .before .before .before .before .before .before .args .next-images)) (now (c .before .before .before .before .before .before .before .before .before .before .before .before .before .args .root-images)) (now (c .before .before .before .before .before .before .before .before .before .before .before .before .before .args .gates-out)) (now (c .before .before .before .before .before .before .before .before .before .before .before .before .before .args .scratch))) (c .before .before .wide .result) (length (now (c .before .before .before .before .before .before .before .before .before .before .before .before .before .args .gates)) / 3) (cc) refl (omega arith) (omega arith)
+returns-2 c = let a = c .before .before .before .before .before .before .before .before .before .before .before .before .before .args in short-nexts (lentOf (a .circuit) [] (now (a .states)) [] (now (a .gates)) (now (a .roots)) (now (a .map)) (now (a .next-images)) (now (a .root-images)) (now (a .gates-out)) (now (a .scratch))) _ _ (c .before .before .wide .ensures ∙ c .before .before .before .index .ensures) refl (c .before .if1 .left) (c .if2 .taken)
 
 returns-3 : tie.Need-returns-3
-returns-3 c = short-roots (lentOf (c .before .before .before .before .before .before .before .before .before .before .before .before .before .before .args .circuit) [] (now (c .before .before .before .before .before .before .before .before .before .before .before .before .before .before .args .states)) [] (now (c .before .before .before .before .before .before .before .before .before .before .before .before .before .before .args .gates)) (now (c .before .before .before .before .before .before .before .before .before .before .before .before .before .before .args .roots)) (now (c .before .before .before .before .before .before .before .before .before .before .before .before .before .before .args .map)) (now (c .before .before .before .before .before .before .before .before .before .before .before .before .before .before .args .next-images)) (now (c .before .before .before .before .before .before .before .before .before .before .before .before .before .before .args .root-images)) (now (c .before .before .before .before .before .before .before .before .before .before .before .before .before .before .args .gates-out)) (now (c .before .before .before .before .before .before .before .before .before .before .before .before .before .before .args .scratch))) (c .before .before .before .wide .result) (length (now (c .before .before .before .before .before .before .before .before .before .before .before .before .before .before .args .gates)) / 3) (cc) refl (omega arith) (omega arith) (omega arith)
+returns-3 c = let a = c .before .before .before .before .before .before .before .before .before .before .before .before .before .before .args in short-roots (lentOf (a .circuit) [] (now (a .states)) [] (now (a .gates)) (now (a .roots)) (now (a .map)) (now (a .next-images)) (now (a .root-images)) (now (a .gates-out)) (now (a .scratch))) _ _ (c .before .before .before .wide .ensures ∙ c .before .before .before .before .index .ensures) refl (c .before .before .if1 .left) (c .before .if2 .left) (c .if3 .taken)
 
 mul-if4 : tie.Need-mul-if4
 mul-if4 c = search needs
 
 returns-4 : tie.Need-returns-4
-returns-4 c = short-gates (lentOf (c .before .before .before .before .before .before .before .before .before .before .before .before .before .before .before .args .circuit) [] (now (c .before .before .before .before .before .before .before .before .before .before .before .before .before .before .before .args .states)) [] (now (c .before .before .before .before .before .before .before .before .before .before .before .before .before .before .before .args .gates)) (now (c .before .before .before .before .before .before .before .before .before .before .before .before .before .before .before .args .roots)) (now (c .before .before .before .before .before .before .before .before .before .before .before .before .before .before .before .args .map)) (now (c .before .before .before .before .before .before .before .before .before .before .before .before .before .before .before .args .next-images)) (now (c .before .before .before .before .before .before .before .before .before .before .before .before .before .before .before .args .root-images)) (now (c .before .before .before .before .before .before .before .before .before .before .before .before .before .before .before .args .gates-out)) (now (c .before .before .before .before .before .before .before .before .before .before .before .before .before .before .before .args .scratch))) (c .before .before .before .before .wide .result) (length (now (c .before .before .before .before .before .before .before .before .before .before .before .before .before .before .before .args .gates)) / 3) (cc) refl (omega arith) (omega arith) (omega arith) (omega arith)
+returns-4 c = let a = c .before .before .before .before .before .before .before .before .before .before .before .before .before .before .before .args in short-gates (lentOf (a .circuit) [] (now (a .states)) [] (now (a .gates)) (now (a .roots)) (now (a .map)) (now (a .next-images)) (now (a .root-images)) (now (a .gates-out)) (now (a .scratch))) _ _ (c .before .before .before .before .wide .ensures ∙ c .before .before .before .before .before .index .ensures) refl (c .before .before .before .if1 .left) (c .before .before .if2 .left) (c .before .if3 .left) (c .if4 .taken)
 
 mul-result : tie.Need-mul-result
 mul-result c = search needs
@@ -48,7 +45,7 @@ add-result-2 : tie.Need-add-result-2
 add-result-2 c = search needs
 
 returns-5 : tie.Need-returns-5
-returns-5 c = short-scratch (lentOf (c .before .before .before .before .before .before .before .before .before .before .before .before .before .before .before .args .circuit) [] (now (c .before .before .before .before .before .before .before .before .before .before .before .before .before .before .before .args .states)) [] (now (c .before .before .before .before .before .before .before .before .before .before .before .before .before .before .before .args .gates)) (now (c .before .before .before .before .before .before .before .before .before .before .before .before .before .before .before .args .roots)) (now (c .before .before .before .before .before .before .before .before .before .before .before .before .before .before .before .args .map)) (now (c .before .before .before .before .before .before .before .before .before .before .before .before .before .before .before .args .next-images)) (now (c .before .before .before .before .before .before .before .before .before .before .before .before .before .before .before .args .root-images)) (now (c .before .before .before .before .before .before .before .before .before .before .before .before .before .before .before .args .gates-out)) (now (c .before .before .before .before .before .before .before .before .before .before .before .before .before .before .before .args .scratch))) (c .before .before .before .before .wide .result) (length (now (c .before .before .before .before .before .before .before .before .before .before .before .before .before .before .before .args .gates)) / 3) (cc) refl (omega arith) (omega arith) (omega arith) (omega arith)
+returns-5 c = let a = c .before .before .before .before .before .before .before .before .before .before .before .before .before .before .before .args in short-scratch (lentOf (a .circuit) [] (now (a .states)) [] (now (a .gates)) (now (a .roots)) (now (a .map)) (now (a .next-images)) (now (a .root-images)) (now (a .gates-out)) (now (a .scratch))) _ _ (c .before .before .before .before .wide .ensures ∙ c .before .before .before .before .before .index .ensures) refl (c .before .before .before .if1 .left) (c .before .before .if2 .left) (c .before .if3 .left) (c .if4 .left)
 
 pub is-short-spec : {M : Type 1} → statement M
 is-short-spec =

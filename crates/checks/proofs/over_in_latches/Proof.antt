@@ -1,14 +1,13 @@
 -- `over_in_latches` meets its contract: nothing before latch i is over the bound, so the first of what is left is the first of all. Assumes nothing.
-use borrow.Author.Needs.{needs}
+use borrow.Author.Needs.{zero≤, scaled-fits}
 use Rattle.checks.proofs.over_in_latches.Statement.{statement}
 use Rattle.checks.proofs.over_in_latches.Tie as tie
-use native.Mathlib.Omega.{arith}
 use denote.Ref.{now}
 use Prim.Native.Nat.{_≤_, _-_}
-use mathlib.Core.Path.{_≡_, sym, ap, _∙_}
+use mathlib.Core.Path.{_≡_, refl, sym, ap, _∙_}
 use lib.ListN.{length, drop}
 use Rattle.circuit.specs.Circuit.{firstOver, latchCodes}
-use Rattle.checks.proofs.Offenders.{latch-state, latch-next, latch-on, latch-short, latch-end}
+use Rattle.checks.proofs.Offenders.{turn-fits, turn-within, turn-nearer, latch-state, latch-next, latch-on, latch-short, latch-end}
 use Rattle.checks.specs.Checks.{found}
 
 abbrev Inv-loop : tie.InvT-loop
@@ -18,52 +17,54 @@ abbrev μ-loop : tie.MeasureT-loop
 μ-loop states nexts bound i₀ i = length states - i
 
 loop-holds : tie.Need-loop-holds Inv-loop μ-loop
-loop-holds c = search needs
+loop-holds c = (zero≤, refl)
 
 returns : tie.Need-returns Inv-loop μ-loop
-returns c = latch-short (c .before .before .before .before .before .args .bound) (now (c .before .before .before .before .before .args .states)) (now (c .before .before .before .before .before .args .nexts)) (c .before .before .loop .i) (c .before .loop-test .taken) (c .if1 .taken) ∙ ap found (sym (c .before .before .loop .inv .1))
+returns c = let a = c .before .before .before .before .before .args in latch-short (a .bound) (now (a .states)) (now (a .nexts)) _ (c .before .loop-test .taken) (c .if1 .taken) ∙ ap found (sym (c .before .before .loop .inv .1))
 
 mul-state : tie.Need-mul-state Inv-loop μ-loop
-mul-state c = search needs
+mul-state c = scaled-fits _ _ 4 (c .before .loop-test .taken) (c .before .before .before .before .before .good .0 .1)
 
 shared-slice-read-state : tie.Need-shared-slice-read-state Inv-loop μ-loop
-shared-slice-read-state c = search needs
+shared-slice-read-state c = c .before .before .loop-test .taken
 
 wide-requires : tie.Need-wide-requires Inv-loop μ-loop
-wide-requires c κs = search needs
+wide-requires c κs = tt
 
 from-code-requires : tie.Need-from-code-requires Inv-loop μ-loop
-from-code-requires c κs = search needs
+from-code-requires c κs = tt
 
 returns-2 : tie.Need-returns-2 Inv-loop μ-loop
-returns-2 c = latch-state (c .before .before .before .before .before .before .before .before .before .args .bound) (now (c .before .before .before .before .before .before .before .before .before .args .states)) (now (c .before .before .before .before .before .before .before .before .before .args .nexts)) (c .before .before .before .before .before .before .loop .i) (c .before .before .before .before .before .loop-test .taken) (omega (arith, c .before .before .before .before .if1 .left)) _ (omega arith) (cc) ∙ ap found (sym (c .before .before .before .before .before .before .loop .inv .1))
+returns-2 c = let a = c .before .before .before .before .before .before .before .before .before .args in latch-state (a .bound) (now (a .states)) (now (a .nexts)) _ (c .before .before .before .before .before .loop-test .taken) (c .before .before .before .before .if1 .left) _ (c .before .before .wide .ensures) _ (c .before .if2 .taken) (c .from-code .ensures) ∙ ap found (sym (c .before .before .before .before .before .before .loop .inv .1))
 
 mul-next : tie.Need-mul-next Inv-loop μ-loop
-mul-next c = search needs
+mul-next c = scaled-fits _ _ 4 (c .before .before .before .if1 .left) (c .before .before .before .before .before .before .before .before .good .1 .0 .1)
 
 shared-slice-read-next : tie.Need-shared-slice-read-next Inv-loop μ-loop
-shared-slice-read-next c = search needs
+shared-slice-read-next c = c .before .before .before .before .if1 .left
 
 wide-requires-2 : tie.Need-wide-requires-2 Inv-loop μ-loop
-wide-requires-2 c κs = search needs
+wide-requires-2 c κs = tt
 
 from-code-requires-2 : tie.Need-from-code-requires-2 Inv-loop μ-loop
-from-code-requires-2 c κs = search needs
+from-code-requires-2 c κs = tt
 
 returns-3 : tie.Need-returns-3 Inv-loop μ-loop
-returns-3 c = latch-next (c .before .before .before .before .before .before .before .before .before .before .before .before .args .bound) (now (c .before .before .before .before .before .before .before .before .before .before .before .before .args .states)) (now (c .before .before .before .before .before .before .before .before .before .before .before .before .args .nexts)) (c .before .before .before .before .before .before .before .before .before .loop .i) (c .before .before .before .before .before .before .before .before .loop-test .taken) (omega (arith, c .before .before .before .before .before .before .before .if1 .left)) _ (omega arith) (omega arith) (cc) ∙ ap found (sym (c .before .before .before .before .before .before .before .before .before .loop .inv .1))
+returns-3 c = let a = c .before .before .before .before .before .before .before .before .before .before .before .before .args in latch-next (a .bound) (now (a .states)) (now (a .nexts)) _ (c .before .before .before .before .before .before .before .before .loop-test .taken) (c .before .before .before .before .before .before .before .if1 .left) _ (c .before .before .before .before .before .wide .ensures) (c .before .before .before .before .if2 .left) _ (c .before .before .wide2 .ensures) _ (c .before .if3 .taken) (c .from-code2 .ensures) ∙ ap found (sym (c .before .before .before .before .before .before .before .before .before .loop .inv .1))
 
 add-i : tie.Need-add-i Inv-loop μ-loop
-add-i c = search needs
+add-i c = turn-fits (c .before .before .before .before .before .before .before .loop-test .taken) (c .before .before .before .before .before .before .before .before .before .before .before .good .0 .1)
 
 loop-less : tie.Need-loop-less Inv-loop μ-loop
-loop-less c = search needs
+loop-less c = turn-nearer (c .before .before .before .before .before .before .before .loop-test .taken)
 
 loop-again : tie.Need-loop-again Inv-loop μ-loop
-loop-again c = (omega arith, c .before .before .before .before .before .before .before .before .loop .inv .1 ∙ latch-on (c .before .before .before .before .before .before .before .before .before .before .before .args .bound) (now (c .before .before .before .before .before .before .before .before .before .before .before .args .states)) (now (c .before .before .before .before .before .before .before .before .before .before .before .args .nexts)) (c .before .before .before .before .before .before .before .before .loop .i) (c .before .before .before .before .before .before .before .loop-test .taken) (omega (arith, c .before .before .before .before .before .before .if1 .left)) (omega arith) (omega arith))
+loop-again c =
+    let a = c .before .before .before .before .before .before .before .before .before .before .before .args in
+    (turn-within (c .before .before .before .before .before .before .before .loop-test .taken), c .before .before .before .before .before .before .before .before .loop .inv .1 ∙ latch-on (a .bound) (now (a .states)) (now (a .nexts)) _ (c .before .before .before .before .before .before .before .loop-test .taken) (c .before .before .before .before .before .before .if1 .left) _ (c .before .before .before .before .wide .ensures) (c .before .before .before .if2 .left) _ (c .before .wide2 .ensures) (c .if3 .left))
 
 returns-4 : tie.Need-returns-4 Inv-loop μ-loop
-returns-4 c = latch-end (c .before .before .before .before .args .bound) (now (c .before .before .before .before .args .states)) (now (c .before .before .before .before .args .nexts)) (c .before .loop .i) (c .loop-test .left) ∙ ap found (sym (c .before .loop .inv .1))
+returns-4 c = let a = c .before .before .before .before .args in latch-end (a .bound) (now (a .states)) (now (a .nexts)) _ (c .loop-test .left) ∙ ap found (sym (c .before .loop .inv .1))
 
 pub over-in-latches-spec : {M : Type 1} → statement M
 over-in-latches-spec =

@@ -1,11 +1,10 @@
 -- `assignable` meets its contract: its tests are those of `assigned`, in the same order. Assumes nothing.
-use borrow.Author.Needs.{needs}
 use borrow.Author.Tests.{eq-eqb, ne-eqb}
 use Rattle.token.proofs.assignable.Statement.{statement}
 use Rattle.token.proofs.assignable.Tie as tie
 
 enum-known-t : tie.Need-enum-known-t
-enum-known-t c = search needs
+enum-known-t c = c .match .keys1
 
 returns : tie.Need-returns
 returns c = simp (c .before .before .t .given .1, eq-eqb _ _ (c .if1 .taken))
@@ -13,15 +12,15 @@ returns c = simp (c .before .before .t .given .1, eq-eqb _ _ (c .if1 .taken))
 returns-2 : tie.Need-returns-2
 returns-2 c = simp (c .before .before .before .t .given .1, ne-eqb _ _ (c .before .if1 .left), eq-eqb _ _ (c .if2 .taken))
 
-enum-known-t-2 : tie.Need-enum-known-t-2
-enum-known-t-2 c = search needs
+enum-told : tie.Need-enum-told
+enum-told c = c .match .keys2
 
 returns-3 : tie.Need-returns-3
 returns-3 c = simp (c .before .before .before .t .given .1, ne-eqb _ _ (c .before .if1 .left), ne-eqb _ _ (c .if2 .left))
 
 returns-4 : tie.Need-returns-4
-returns-4 c = simp (c .before .t2 .given .1)
+returns-4 c = simp (c .enum-told .given .1)
 
 pub assignable-spec : {M : Type 1} → statement M
 assignable-spec =
-    tie.close (tie.spec enum-known-t returns returns-2 enum-known-t-2 returns-3 returns-4)
+    tie.close (tie.spec enum-known-t returns returns-2 enum-told returns-3 returns-4)

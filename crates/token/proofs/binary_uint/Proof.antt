@@ -1,13 +1,13 @@
 -- `binary_uint` meets its contract. The invariant: n bytes are passed, at most seven, each of them goes on, v is what they write and weight
 -- is 128 ^ n. A byte below 128 is the last, an eighth that goes on is one too many, and the end cuts the number. No product wraps, because a group
 -- is below 128 and the weight at most 128 ^ 7. The measure is the bytes left. Assumes nothing.
-use borrow.Author.Needs.{needs}
+use borrow.Author.Needs.{zero≤}
 use Prim.Native.Nat.{_+_, _-_, _≤_}
+use native.Mathlib.Nat.{le-of-lt}
 use mathlib.Core.Path.{_≡_}
-use native.Mathlib.Omega.{arith}
 use lib.ListN.{length, drop-of-length-le}
 use Rattle.token.specs.Answer.{goOnAt, binaryAt}
-use Rattle.token.proofs.Groups.{GroupsPassed, groups-passed-none, groups-passed-small, group-small, groups-passed-cut, groups-passed-last, groups-passed-long, groups-passed-group}
+use Rattle.token.proofs.Groups.{GroupsPassed, turn-past, turn-there, turn-place, turn-within, turn-nearer, room-whole, groups-passed-none, groups-passed-count, groups-passed-weight, group-fits, group-added, group-low, groups-passed-cut, groups-passed-last, groups-passed-long, groups-passed-group}
 use Rattle.token.proofs.binary_uint.Statement.{statement}
 use Rattle.token.proofs.binary_uint.Tie as tie
 
@@ -23,86 +23,58 @@ returns c =
     rw (drop-of-length-le (c .before .before .args .s .now) (c .if1 .taken))
 
 sub-room : tie.Need-sub-room Inv-loop μ-loop
-sub-room c = omega arith
+sub-room c = le-of-lt (c .if1 .left)
 
 loop-holds : tie.Need-loop-holds Inv-loop μ-loop
-loop-holds c = (omega arith, omega arith, groups-passed-none _ _ (omega arith))
+loop-holds c = (zero≤, room-whole (c .if1 .left), groups-passed-none _ _ (le-of-lt (c .if1 .left)))
 
 add-wide : tie.Need-add-wide Inv-loop μ-loop
-add-wide c = omega arith
+add-wide c = turn-place _ (c .before .loop .inv .1) (c .loop-test .taken) (c .before .before .before .before .good .0 .1)
 
 shared-slice-read-wide : tie.Need-shared-slice-read-wide Inv-loop μ-loop
-shared-slice-read-wide c = omega arith
+shared-slice-read-wide c = turn-there _ (c .before .before .loop .inv .1) (c .before .loop-test .taken)
 
 wide-requires : tie.Need-wide-requires Inv-loop μ-loop
-wide-requires c κs = search needs
+wide-requires c κs = tt
 
 mul-t15 : tie.Need-mul-t15 Inv-loop μ-loop
-mul-t15 c =
-    let l = c .before .before .before .before .loop in
-    let w = c .before .wide in
-    omega (arith, group-small (l .inv .2) (w .result) (omega arith))
+mul-t15 c = group-fits (c .before .before .before .before .loop .inv .2) (c .if2 .taken)
 
 add-t16 : tie.Need-add-t16 Inv-loop μ-loop
-add-t16 c =
-    let l = c .before .before .before .before .loop in
-    let w = c .before .wide in
-    omega (arith, groups-passed-small (l .inv .2), group-small (l .inv .2) (w .result) (omega arith))
+add-t16 c = group-added (c .before .before .before .before .loop .inv .2) (c .if2 .taken)
 
 add-t17 : tie.Need-add-t17 Inv-loop μ-loop
-add-t17 c = omega arith
+add-t17 c = groups-passed-count (c .before .before .before .before .loop .inv .2)
 
 returns-2 : tie.Need-returns-2 Inv-loop μ-loop
-returns-2 c =
-    let l = c .before .before .before .before .loop in
-    let w = c .before .wide in
-    groups-passed-last (l .inv .2) (omega arith) (w .ensures) (omega arith)
+returns-2 c = groups-passed-last (c .before .before .before .before .loop .inv .2) (turn-there _ (c .before .before .before .before .loop .inv .1) (c .before .before .before .loop-test .taken)) (c .before .wide .ensures) (c .if2 .taken)
 
 returns-3 : tie.Need-returns-3 Inv-loop μ-loop
-returns-3 c =
-    let l = c .before .before .before .before .before .loop in
-    let w = c .before .before .wide in
-    groups-passed-long (l .inv .2) (omega arith) (w .ensures) (omega arith) (omega arith)
+returns-3 c = groups-passed-long (c .before .before .before .before .before .loop .inv .2) (turn-there _ (c .before .before .before .before .before .loop .inv .1) (c .before .before .before .before .loop-test .taken)) (c .before .before .wide .ensures) (c .before .if2 .left) (c .if3 .taken)
 
 mul-v : tie.Need-mul-v Inv-loop μ-loop
 mul-v c =
-    let a = c .before .before .before .before .before .before .before .before .args in
-    let l = c .before .before .before .before .before .loop in
-    let w = c .before .before .wide in
-    let byte = c .before .before .before .shared-slice-known2 .given (a .at + l .n) in
-    omega (arith, group-small (l .inv .2) (w .result - 128) (omega arith))
+    group-fits (c .before .before .before .before .before .loop .inv .2) (group-low (c .before .before .before .before .before .loop .inv .2) (turn-there _ (c .before .before .before .before .before .loop .inv .1) (c .before .before .before .before .loop-test .taken)) (c .before .before .wide .ensures) (c .before .if2 .left) (c .before .before .before .shared-slice-known2 .given _))
 
 add-v : tie.Need-add-v Inv-loop μ-loop
 add-v c =
-    let a = c .before .before .before .before .before .before .before .before .args in
-    let l = c .before .before .before .before .before .loop in
-    let w = c .before .before .wide in
-    let byte = c .before .before .before .shared-slice-known2 .given (a .at + l .n) in
-    omega (arith, groups-passed-small (l .inv .2), group-small (l .inv .2) (w .result - 128) (omega arith))
+    group-added (c .before .before .before .before .before .loop .inv .2) (group-low (c .before .before .before .before .before .loop .inv .2) (turn-there _ (c .before .before .before .before .before .loop .inv .1) (c .before .before .before .before .loop-test .taken)) (c .before .before .wide .ensures) (c .before .if2 .left) (c .before .before .before .shared-slice-known2 .given _))
 
 mul-weight : tie.Need-mul-weight Inv-loop μ-loop
-mul-weight c =
-    let l = c .before .before .before .before .before .loop in
-    omega (arith, groups-passed-small (l .inv .2))
+mul-weight c = groups-passed-weight (c .before .before .before .before .before .loop .inv .2)
 
 add-n : tie.Need-add-n Inv-loop μ-loop
-add-n c = omega arith
+add-n c = groups-passed-count (c .before .before .before .before .before .loop .inv .2)
 
 loop-less : tie.Need-loop-less Inv-loop μ-loop
-loop-less c = omega arith
+loop-less c = turn-nearer (c .before .before .before .before .loop-test .taken)
 
 loop-again : tie.Need-loop-again Inv-loop μ-loop
 loop-again c =
-    let a = c .before .before .before .before .before .before .before .before .args in
-    let l = c .before .before .before .before .before .loop in
-    let w = c .before .before .wide in
-    let byte = c .before .before .before .shared-slice-known2 .given (a .at + l .n) in
-    (omega arith, omega arith, groups-passed-group (l .inv .2) (omega arith) (w .ensures) (omega arith) (omega arith) (omega arith))
+    (turn-within (c .before .before .before .before .loop-test .taken), c .before .before .before .before .before .loop .inv .1, groups-passed-group (c .before .before .before .before .before .loop .inv .2) (turn-there _ (c .before .before .before .before .before .loop .inv .1) (c .before .before .before .before .loop-test .taken)) (c .before .before .wide .ensures) (c .before .if2 .left) (c .before .before .before .shared-slice-known2 .given _) (c .if3 .left))
 
 returns-4 : tie.Need-returns-4 Inv-loop μ-loop
-returns-4 c =
-    let l = c .before .loop in
-    groups-passed-cut (l .inv .2) (omega arith)
+returns-4 c = groups-passed-cut (c .before .loop .inv .2) (turn-past _ (c .before .loop .inv .1) (c .loop-test .left))
 
 pub binary-uint-spec : {M : Type 1} → statement M
 binary-uint-spec =

@@ -1,67 +1,61 @@
--- `decimal` meets its contract. The invariant: n digits are passed, and write v, which fits 64 bits. The first byte that is no digit ends the
--- run, and so does the end. Digits only make a number larger, so one that no longer fits is refused at once. The measure is the bytes left. Assumes nothing.
-use borrow.Author.Needs.{needs}
-use Prim.Native.Nat.{_+_, _-_, _≤_}
-use mathlib.Core.Path.{_≡_}
-use native.Mathlib.Omega.{arith}
+-- `decimal` meets its contract. The invariant: n digits are passed, and write v, which fits 64 bits. A place with no digit ends the run. Digits only
+-- make a number larger, so one that no longer fits is refused at once. The measure is the bytes left. Assumes nothing.
+use Prim.Native.Nat.{_+_, _-_}
 use lib.ListN.{length}
-use Rattle.token.proofs.Decimals.{DigitsPassed, digits-passed-none, digits-passed-end, digits-passed-below, digits-passed-past, digits-passed-digit, digits-passed-over}
+use Rattle.token.proofs.Decimals.{DigitsPassed, digits-passed-none, digits-passed-place, digits-passed-count, digits-passed-end, digit-there, digit-least, digit-nearer, digit-small, digit-tens, digit-added, digits-passed-digit, digits-passed-over}
 use Rattle.token.proofs.decimal.Statement.{statement}
 use Rattle.token.proofs.decimal.Tie as tie
 
 abbrev Inv-loop : tie.InvT-loop
-Inv-loop s at room n₀ v₀ n v = (n ≤ room) × (at + room ≡ length s) × DigitsPassed s at n v
+Inv-loop s at n₀ v₀ n v = DigitsPassed s at n v
 
 abbrev μ-loop : tie.MeasureT-loop
-μ-loop s at room n₀ v₀ n v = room - n
-
-sub-room : tie.Need-sub-room Inv-loop μ-loop
-sub-room c = omega arith
+μ-loop s at n₀ v₀ n v = length s - (at + n)
 
 loop-holds : tie.Need-loop-holds Inv-loop μ-loop
-loop-holds c = (omega arith, omega arith, digits-passed-none _ _ (omega arith))
+loop-holds c = digits-passed-none _ _ (c .before .pre)
 
-add-b : tie.Need-add-b Inv-loop μ-loop
-add-b c = omega arith
+add-digit-at : tie.Need-add-digit-at Inv-loop μ-loop
+add-digit-at c = digits-passed-place (c .loop .inv) (c .before .before .good .0 .1)
 
-shared-slice-read-b : tie.Need-shared-slice-read-b Inv-loop μ-loop
-shared-slice-read-b c = omega arith
+digit-at-requires : tie.Need-digit-at-requires Inv-loop μ-loop
+digit-at-requires c κs = tt
 
-returns : tie.Need-returns Inv-loop μ-loop
-returns c = digits-passed-below (c .before .before .before .loop .inv .2) (omega arith) (omega arith)
+add-wide : tie.Need-add-wide Inv-loop μ-loop
+add-wide c = digits-passed-place (c .before .before .loop .inv) (c .before .before .before .before .good .0 .1)
 
-returns-2 : tie.Need-returns-2 Inv-loop μ-loop
-returns-2 c = digits-passed-past (c .before .before .before .before .loop .inv .2) (omega arith) (omega arith)
+shared-slice-read-wide : tie.Need-shared-slice-read-wide Inv-loop μ-loop
+shared-slice-read-wide c = digit-there (c .before .before .before .loop .inv) (c .before .before .digit-at .ensures) (c .before .if1 .taken)
+
+sub-wide : tie.Need-sub-wide Inv-loop μ-loop
+sub-wide c = digit-least (c .before .before .before .loop .inv) (c .before .before .digit-at .ensures) (c .before .if1 .taken)
 
 wide-requires : tie.Need-wide-requires Inv-loop μ-loop
-wide-requires c κs = search needs
+wide-requires c κs = tt
 
-returns-3 : tie.Need-returns-3 Inv-loop μ-loop
-returns-3 c = digits-passed-over (c .before .before .before .before .before .before .loop .inv .2) (omega arith) (omega arith) (omega arith) (c .before .wide .ensures) (omega arith)
+sub-if2 : tie.Need-sub-if2 Inv-loop μ-loop
+sub-if2 c = digit-small (c .before .before .before .before .loop .inv) (c .before .before .before .digit-at .ensures) (c .before .before .if1 .taken) (c .wide .ensures)
 
-mul-t : tie.Need-mul-t Inv-loop μ-loop
-mul-t c = omega arith
+returns : tie.Need-returns Inv-loop μ-loop
+returns c = digits-passed-over (c .before .before .before .before .before .loop .inv) (c .before .before .before .before .digit-at .ensures) (c .before .before .before .if1 .taken) (c .before .wide .ensures) (c .if2 .taken)
 
-sub-if4 : tie.Need-sub-if4 Inv-loop μ-loop
-sub-if4 c = omega arith
-
-returns-4 : tie.Need-returns-4 Inv-loop μ-loop
-returns-4 c = digits-passed-over (c .before .before .before .before .before .before .before .loop .inv .2) (omega arith) (omega arith) (omega arith) (c .before .before .wide .ensures) (omega arith)
+mul-v : tie.Need-mul-v Inv-loop μ-loop
+mul-v c = digit-tens (c .before .before .before .before .before .loop .inv) (c .before .before .before .before .digit-at .ensures) (c .before .before .before .if1 .taken) (c .before .wide .ensures) (c .if2 .left)
 
 add-v : tie.Need-add-v Inv-loop μ-loop
-add-v c = omega arith
+add-v c = digit-added (c .before .before .before .before .before .loop .inv) (c .before .before .before .before .digit-at .ensures) (c .before .before .before .if1 .taken) (c .before .wide .ensures) (c .if2 .left)
 
 add-n : tie.Need-add-n Inv-loop μ-loop
-add-n c = omega arith
+add-n c = digits-passed-count (c .before .before .before .before .before .loop .inv) (c .before .before .before .before .before .before .before .good .0 .1)
 
 loop-less : tie.Need-loop-less Inv-loop μ-loop
-loop-less c = omega arith
+loop-less c = digit-nearer (c .before .before .before .before .before .loop .inv) (c .before .before .before .before .digit-at .ensures) (c .before .before .before .if1 .taken)
 
 loop-again : tie.Need-loop-again Inv-loop μ-loop
-loop-again c = (omega arith, omega arith, digits-passed-digit (c .before .before .before .before .before .before .before .loop .inv .2) (omega arith) (omega arith) (omega arith) (c .before .before .wide .ensures) (omega arith))
+loop-again c = digits-passed-digit (c .before .before .before .before .before .loop .inv) (c .before .before .before .before .digit-at .ensures) (c .before .before .before .if1 .taken) (c .before .wide .ensures) (c .if2 .left)
 
-returns-5 : tie.Need-returns-5 Inv-loop μ-loop
-returns-5 c = digits-passed-end (c .before .loop .inv .2) (omega arith)
+returns-2 : tie.Need-returns-2 Inv-loop μ-loop
+returns-2 c = digits-passed-end (c .before .before .loop .inv) (c .before .digit-at .ensures) (c .if1 .left)
 
 pub decimal-spec : {M : Type 1} → statement M
 decimal-spec =
@@ -69,19 +63,18 @@ decimal-spec =
     (tie.spec
     Inv-loop
     μ-loop
-    sub-room
     loop-holds
-    add-b
-    shared-slice-read-b
-    returns
-    returns-2
+    add-digit-at
+    digit-at-requires
+    add-wide
+    shared-slice-read-wide
+    sub-wide
     wide-requires
-    returns-3
-    mul-t
-    sub-if4
-    returns-4
+    sub-if2
+    returns
+    mul-v
     add-v
     add-n
     loop-less
     loop-again
-    returns-5)
+    returns-2)

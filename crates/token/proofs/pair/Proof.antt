@@ -1,65 +1,62 @@
 -- `pair` meets its contract: the second delta is read from the first input and at the place after the first delta, which stands within the
 -- bytes, so that neither the place nor the count of bytes wraps. Assumes nothing.
-use borrow.Author.Needs.{needs}
 use mathlib.Core.Path.{sym, _∙_}
-use native.Mathlib.Omega.{arith}
 use Rattle.token.specs.Answer.{pairAt}
-use Rattle.token.proofs.Deltas.{delta-used}
+use Rattle.token.proofs.Deltas.{delta-used, delta-place}
 use Rattle.token.proofs.pair.Statement.{statement}
 use Rattle.token.proofs.pair.Tie as tie
 
 delta-code-requires : tie.Need-delta-code-requires
-delta-code-requires c κs = search needs
+delta-code-requires c κs = tt
 
-enum-known-value : tie.Need-enum-known-value
-enum-known-value c = search needs
+enum-known-first : tie.Need-enum-known-first
+enum-known-first c = c .match .keys1
 
 add-delta-code : tie.Need-add-delta-code
 add-delta-code c =
     let a = c .before .before .before .before .before .args in
-    omega (arith, delta-used (a .s .now) (a .at) (a .code) _ _ (sym (c .before .before .before .delta-code .ensures) ∙ c .before .value .given .1))
+    delta-place (a .s .now) (a .at) (a .code) _ _ (sym (c .before .before .before .delta-code .ensures) ∙ c .before .first .given .1) (c .before .before .before .before .before .good .0 .1)
 
 delta-code-requires-2 : tie.Need-delta-code-requires-2
-delta-code-requires-2 c κs = search needs
+delta-code-requires-2 c κs = tt
 
-enum-known-value-2 : tie.Need-enum-known-value-2
-enum-known-value-2 c = search needs
+enum-known-value : tie.Need-enum-known-value
+enum-known-value c = c .match2 .keys1
 
 inputs-requires : tie.Need-inputs-requires
 inputs-requires c κs =
-    let a = c .before .before .before .before .before .before .before .before .before .args in
-    omega (arith, delta-used (a .s .now) (a .at) (a .code) _ _ (sym (c .before .before .before .before .before .before .before .delta-code .ensures) ∙ c .before .before .before .before .before .value .given .1), delta-used (a .s .now) _ _ _ _ (sym (c .before .before .before .delta-code2 .ensures) ∙ c .before .value2 .given .1))
+    let a = c .before .before .before .before .before .before .before .before .before .args in (
+      delta-used (a .s .now) (a .at) (a .code) _ _ (sym (c .before .before .before .before .before .before .before .delta-code .ensures) ∙ c .before .before .before .before .before .first .given .1) .eight,
+      delta-used (a .s .now) _ _ _ _ (sym (c .before .before .before .delta-code2 .ensures) ∙ c .before .value .given .1) .eight,
+    )
 
 enum-known-why : tie.Need-enum-known-why
-enum-known-why c = search needs
+enum-known-why c = c .match2 .keys2
 
 enum-known-why-2 : tie.Need-enum-known-why-2
-enum-known-why-2 c = search needs
+enum-known-why-2 c = c .match .keys2
 
 returns : tie.Need-returns
 unfolding pairAt
-returns c =
-    c .inputs .ensures ∙ rw (← c .before .before .before .before .before .before .before .before .delta-code .ensures, c .before .before .before .before .before .before .value .given .1, ← c .before .before .before .before .delta-code2 .ensures, c .before .before .value2 .given .1)
+returns c = c .inputs .ensures ∙ rw (← c .before .before .before .before .before .before .before .before .delta-code .ensures, c .before .before .before .before .before .before .first .given .1, ← c .before .before .before .before .delta-code2 .ensures, c .before .before .value .given .1)
 
 returns-2 : tie.Need-returns-2
 unfolding pairAt
-returns-2 c =
-    rw (← c .before .before .before .before .before .before .before .delta-code .ensures, c .before .before .before .before .before .value .given .1, ← c .before .before .before .delta-code2 .ensures, c .before .why .given .1)
+returns-2 c = rw (← c .before .before .before .before .before .before .before .delta-code .ensures, c .before .before .before .before .before .first .given .1, ← c .before .before .before .delta-code2 .ensures, c .before .why .given .1)
 
 returns-3 : tie.Need-returns-3
 unfolding pairAt
-returns-3 c =
-    rw (← c .before .before .before .delta-code .ensures, c .before .why2 .given .1)
+returns-3 c = rw (← c .before .before .before .delta-code .ensures, c .before .why2 .given .1)
 
 pub pair-spec : {M : Type 1} → statement M
 pair-spec =
     tie.close
     (tie.spec
     delta-code-requires
-    enum-known-value
+    enum-known-first
     add-delta-code
     delta-code-requires-2
-    enum-known-value-2
+    enum-known-value
     inputs-requires
     enum-known-why
     enum-known-why-2

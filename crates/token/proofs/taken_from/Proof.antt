@@ -1,28 +1,22 @@
 -- `taken_from` meets its contract: its test is that of `less`. Assumes nothing.
-use borrow.Author.Needs.{needs}
-use native.Mathlib.Omega.{arith}
 use borrow.Author.Tests.{le-leb, lt-leb}
 use Rattle.token.proofs.taken_from.Statement.{statement}
 use Rattle.token.proofs.taken_from.Tie as tie
 
 enum-known-t : tie.Need-enum-known-t
-enum-known-t c = search needs
+enum-known-t c = c .match .keys1
 
-enum-known-t-2 : tie.Need-enum-known-t-2
-enum-known-t-2 c = search needs
+enum-told : tie.Need-enum-told
+enum-told c = c .match .keys2
 
 returns : tie.Need-returns
-returns c =
-    let a = c .before .before .before .before .args in
-    simp (c .before .before .t .given .1, le-leb (c .before .before .t .given .0 .0) (a .reference) (omega arith))
+returns c = simp (c .before .before .t .given .1, le-leb _ _ (c .if1 .taken))
 
 returns-2 : tie.Need-returns-2
-returns-2 c =
-    let a = c .before .before .before .before .args in
-    simp (c .before .before .t .given .1, lt-leb (c .before .before .t .given .0 .0) (a .reference) (omega arith))
+returns-2 c = simp (c .before .before .t .given .1, lt-leb _ _ (c .if1 .left))
 
 returns-3 : tie.Need-returns-3
-returns-3 c = simp (c .before .t2 .given .1)
+returns-3 c = simp (c .enum-told .given .1)
 
 pub taken-from-spec : {M : Type 1} → statement M
-taken-from-spec = tie.close (tie.spec enum-known-t enum-known-t-2 returns returns-2 returns-3)
+taken-from-spec = tie.close (tie.spec enum-known-t enum-told returns returns-2 returns-3)

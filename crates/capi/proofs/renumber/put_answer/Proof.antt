@@ -1,41 +1,40 @@
 -- `renumber::put_answer` meets its contract: a success and a refusal are the two ways out, each by its law. Assumes nothing.
 use Rattle.capi.proofs.Renumbering.{said-made, said-refused}
-use borrow.Author.Needs.{needs}
 use Rattle.capi.proofs.renumber.put_answer.Statement.{statement}
 use Rattle.capi.proofs.renumber.put_answer.Tie as tie
 
 enum-known-said : tie.Need-enum-known-said
-enum-known-said c = search needs
+enum-known-said c = c .match .keys1
 
 index-requires : tie.Need-index-requires
-index-requires c κs = search needs
+index-requires c κs = tt
 
 put-words-requires : tie.Need-put-words-requires
-put-words-requires c κs = search needs
+put-words-requires c κs = c .before .before .before .before .before .before .before .pre
 
 enum-known-said-2 : tie.Need-enum-known-said-2
-enum-known-said-2 c = search needs
+enum-known-said-2 c = c .match .keys2
 
 literal-requires : tie.Need-literal-requires
-literal-requires c κs = search needs
+literal-requires c κs = tt
 
 code-requires : tie.Need-code-requires
-code-requires c κs = search needs
+code-requires c κs = tt
 
 put-words-requires-2 : tie.Need-put-words-requires-2
-put-words-requires-2 c κs = search needs
+put-words-requires-2 c κs = c .before .before .before .before .before .before .before .pre
 
 number-requires : tie.Need-number-requires
-number-requires c κs = search needs
+number-requires c κs = tt
 
 same-length : tie.Need-same-length
-same-length c = search needs
+same-length c = c .before .before .put-words .kept .0
 
 returns : tie.Need-returns
 returns c = said-made _ _ _ _ _ (c .before .before .before .before .before .before .before .said .given .1) (c .before .before .before .index .ensures) (c .before .before .put-words .ensures)
 
 same-length-2 : tie.Need-same-length-2
-same-length-2 c = search needs
+same-length-2 c = c .before .before .before .put-words2 .kept .0
 
 returns-2 : tie.Need-returns-2
 returns-2 c = said-refused _ _ _ _ _ _ _ (c .before .before .before .before .before .before .before .before .said2 .given .1) (c .number .ensures) (c .before .before .before .before .code .ensures) (c .before .before .before .before .before .before .literal .ensures) (c .before .before .before .put-words2 .ensures)
