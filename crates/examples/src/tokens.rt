@@ -46,7 +46,7 @@ fn lit(line: &[u8], fifth: u8) {
     on_text(line, b'l', 1);
 }
 
-// Bytes that begin with the word given, the number before them, and the place after them.
+// Bytes from a word on, a number before them and a place after them, as in `pair for 6: ff 02 05 at 1`. A place that the line does not name is 0.
 fn on_bytes(line: &[u8], kind: u8, word: usize)
     requires { ⌜ (0 < word) × (word ≤ 5) ⌝ }
 {
@@ -65,7 +65,7 @@ fn of_bytes(kind: u8, s: &[u8], at: usize, number: u64) {
     }
 }
 
-// A text, which is the word given, and the number two words on: the place of a `uint`, and the others' limit.
+// A text, which is a word, and a number two words on, as in `uint x12 at 1` and `lit assigning 7, limit 6`.
 fn on_text(line: &[u8], kind: u8, word: usize)
     requires { ⌜ word ≤ 2 ⌝ }
 {
