@@ -1,5 +1,7 @@
 -- Laws of checks 1 to 3 in the code's own terms: one for each return. Assumes nothing.
-use Prim.Native.Nat.{ℕ, _+_, _*_, _/_, _%_, _<_, _≤_}
+use Prim.Native.Nat.{ℕ, _+_, _*_, _/_, _%_, _^_, _<_, _≤_}
+use mir.Syntax.{w64}
+use mir.Val.{Fits}
 use mathlib.Core.Path.{_≡_, refl, sym, _∙_}
 use mathlib.Core.Bool.{Bool, true, false, not}
 use mathlib.Core.Option.{Option, none, some}
@@ -35,33 +37,63 @@ pub sums : (l : List ℕ) → length l ≡ 5 → {a b c d f : ℕ} → a ≡ get
     → a + (b + (c + (d + f))) ≡ total l
 sums l e p q r s t = rw (p, q, r, s, t) (total-five l e)
 
+-- sums of a word v, and of a third of n words of a list, fit 64 bits
+module _ {v i : ℕ} (e : v ≡ i) (f : i < 2 ^ 32) where
+  pub fits-next : Fits w64 (v + 1)
+  fits-next = record { fits = omega arith }
+
+  pub fits-twice : Fits w64 (2 * v)
+  fits-twice = record { fits = omega arith }
+
+  pub fits-bound : Fits w64 (2 * v + 1)
+  fits-bound = record { fits = omega arith }
+
+  pub fits-thrice : Fits w64 (3 * v)
+  fits-thrice = record { fits = omega arith }
+
+  pub fits-table : Fits w64 (3 * v + 3)
+  fits-table = record { fits = omega arith }
+
+  pub fits-scratch : (n : ℕ) → n * 4 < 2 ^ 63 → Fits w64 (3 * v + 3 + 3 * (n / 3))
+  fits-scratch n h = record { fits = omega arith }
+
+pub fits-pairs : (n : ℕ) → n * 4 < 2 ^ 63 → Fits w64 (2 * (n / 3))
+fits-pairs n h = record { fits = omega arith }
+
+pub fits-triples : (n : ℕ) → n * 4 < 2 ^ 63 → Fits w64 (3 * (n / 3))
+fits-triples n h = record { fits = omega arith }
+
 -- check 1
 module _ (l : Lent) where
   abbrev C : Circuit
   C = circuitOf l
 
-  pub big-top : limit < C .top → true ≡ tooBig C
-  unfolding tooBig
-  big-top h = simp (lt-ltb _ _ h)
-
-  module _ (v : C .top ≤ limit) where
-    pub big-inputs : limit < length (l .inputs) → true ≡ tooBig C
+  module _ {top : ℕ} (isTop : top ≡ C .top) where
+    pub big-top : limit < top → true ≡ tooBig C
     unfolding tooBig
-    big-inputs h = simp (le-ltb _ _ v, lt-ltb _ _ h)
+    big-top h = let k : limit < C .top = omega arith in simp (lt-ltb _ _ k)
 
-    module _ (i : length (l .inputs) ≤ limit) where
-      pub big-states : limit < length (l .states) → true ≡ tooBig C
+    module _ (v : top ≤ limit) where
+      within : C .top ≤ limit
+      within = omega arith
+
+      pub big-inputs : limit < length (l .inputs) → true ≡ tooBig C
       unfolding tooBig
-      big-states h = simp (le-ltb _ _ v, le-ltb _ _ i, lt-ltb _ _ h)
+      big-inputs h = simp (le-ltb _ _ within, lt-ltb _ _ h)
 
-      module _ (s : length (l .states) ≤ limit) where
-        pub big-gates : limit < length (l .gates) / 3 → true ≡ tooBig C
+      module _ (i : length (l .inputs) ≤ limit) where
+        pub big-states : limit < length (l .states) → true ≡ tooBig C
         unfolding tooBig
-        big-gates h = simp (le-ltb _ _ v, le-ltb _ _ i, le-ltb _ _ s, gates-length (l .gates), lt-ltb _ _ h)
+        big-states h = simp (le-ltb _ _ within, le-ltb _ _ i, lt-ltb _ _ h)
 
-        pub big-roots : length (l .gates) / 3 ≤ limit → ltb limit (length (l .roots)) ≡ tooBig C
-        unfolding tooBig
-        big-roots h = simp (le-ltb _ _ v, le-ltb _ _ i, le-ltb _ _ s, gates-length (l .gates), le-ltb _ _ h)
+        module _ (s : length (l .states) ≤ limit) where
+          pub big-gates : limit < length (l .gates) / 3 → true ≡ tooBig C
+          unfolding tooBig
+          big-gates h = simp (le-ltb _ _ within, le-ltb _ _ i, le-ltb _ _ s, gates-length (l .gates), lt-ltb _ _ h)
+
+          pub big-roots : length (l .gates) / 3 ≤ limit → ltb limit (length (l .roots)) ≡ tooBig C
+          unfolding tooBig
+          big-roots h = simp (le-ltb _ _ within, le-ltb _ _ i, le-ltb _ _ s, gates-length (l .gates), le-ltb _ _ h)
 
   -- check 2
   module _ (r : ℕ) (isTotal : r ≡ total (l .circuit .counts)) where

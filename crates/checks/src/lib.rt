@@ -169,16 +169,16 @@ fn over(
     let top = circuit.top;
     let bound = 2 * wide(top.index()) + 1;
     let first = over_in(inputs, bound);
-    if let Found::Literal(lit) = first {
-        return Found::Literal(lit);
+    if let Found::Literal(_) = first {
+        return first;
     }
     let first = over_in(gates, bound);
-    if let Found::Literal(lit) = first {
-        return Found::Literal(lit);
+    if let Found::Literal(_) = first {
+        return first;
     }
     let first = over_in_latches(states, nexts, bound);
-    if let Found::Literal(lit) = first {
-        return Found::Literal(lit);
+    if let Found::Literal(_) = first {
+        return first;
     }
     over_in(roots, bound)
 }

@@ -1,12 +1,12 @@
 -- `is_short` meets its contract: each test decides one part of the definition's disjunction. Assumes nothing.
-use borrow.Author.Needs.{needs}
 use Rattle.checks.proofs.is_short.Statement.{statement}
 use Rattle.checks.proofs.is_short.Tie as tie
 use denote.Ref.{now}
 use mathlib.Core.Path.{refl, _∙_}
 use Rattle.circuit.specs.Outcome.{lentOf}
 use mathlib.Core.List.{[]}
-use Rattle.checks.proofs.Sizes.{short-map, short-nexts, short-roots, short-gates, short-scratch}
+use lib.ListN.{length}
+use Rattle.checks.proofs.Sizes.{fits-next, fits-thrice, fits-table, fits-scratch, fits-pairs, fits-triples, short-map, short-nexts, short-roots, short-gates, short-scratch}
 
 index-requires : tie.Need-index-requires
 index-requires c κs = tt
@@ -15,7 +15,7 @@ wide-requires : tie.Need-wide-requires
 wide-requires c κs = tt
 
 add-if1 : tie.Need-add-if1
-add-if1 c = search needs
+add-if1 c = fits-next (c .wide .ensures) (c .before .index .ok)
 
 returns : tie.Need-returns
 returns c = let a = c .before .before .before .before .before .before .before .before .before .before .before .before .args in short-map (lentOf (a .circuit) [] (now (a .states)) [] (now (a .gates)) (now (a .roots)) (now (a .map)) (now (a .next-images)) (now (a .root-images)) (now (a .gates-out)) (now (a .scratch))) _ _ (c .before .wide .ensures ∙ c .before .before .index .ensures) refl (c .if1 .taken)
@@ -27,22 +27,22 @@ returns-3 : tie.Need-returns-3
 returns-3 c = let a = c .before .before .before .before .before .before .before .before .before .before .before .before .before .before .args in short-roots (lentOf (a .circuit) [] (now (a .states)) [] (now (a .gates)) (now (a .roots)) (now (a .map)) (now (a .next-images)) (now (a .root-images)) (now (a .gates-out)) (now (a .scratch))) _ _ (c .before .before .before .wide .ensures ∙ c .before .before .before .before .index .ensures) refl (c .before .before .if1 .left) (c .before .if2 .left) (c .if3 .taken)
 
 mul-if4 : tie.Need-mul-if4
-mul-if4 c = search needs
+mul-if4 c = fits-pairs (length (now (c .before .before .before .before .before .before .before .before .before .before .before .before .before .before .args .gates))) (c .before .before .before .before .before .before .before .before .before .before .before .before .before .before .good .1 .1 .0 .1)
 
 returns-4 : tie.Need-returns-4
 returns-4 c = let a = c .before .before .before .before .before .before .before .before .before .before .before .before .before .before .before .args in short-gates (lentOf (a .circuit) [] (now (a .states)) [] (now (a .gates)) (now (a .roots)) (now (a .map)) (now (a .next-images)) (now (a .root-images)) (now (a .gates-out)) (now (a .scratch))) _ _ (c .before .before .before .before .wide .ensures ∙ c .before .before .before .before .before .index .ensures) refl (c .before .before .before .if1 .left) (c .before .before .if2 .left) (c .before .if3 .left) (c .if4 .taken)
 
 mul-result : tie.Need-mul-result
-mul-result c = search needs
+mul-result c = fits-thrice (c .before .before .before .before .wide .ensures) (c .before .before .before .before .before .index .ok)
 
 add-result : tie.Need-add-result
-add-result c = search needs
+add-result c = fits-table (c .before .before .before .before .wide .ensures) (c .before .before .before .before .before .index .ok)
 
 mul-result-2 : tie.Need-mul-result-2
-mul-result-2 c = search needs
+mul-result-2 c = fits-triples (length (now (c .before .before .before .before .before .before .before .before .before .before .before .before .before .before .before .args .gates))) (c .before .before .before .before .before .before .before .before .before .before .before .before .before .before .before .good .1 .1 .0 .1)
 
 add-result-2 : tie.Need-add-result-2
-add-result-2 c = search needs
+add-result-2 c = fits-scratch (c .before .before .before .before .wide .ensures) (c .before .before .before .before .before .index .ok) (length (now (c .before .before .before .before .before .before .before .before .before .before .before .before .before .before .before .args .gates))) (c .before .before .before .before .before .before .before .before .before .before .before .before .before .before .before .good .1 .1 .0 .1)
 
 returns-5 : tie.Need-returns-5
 returns-5 c = let a = c .before .before .before .before .before .before .before .before .before .before .before .before .before .before .before .args in short-scratch (lentOf (a .circuit) [] (now (a .states)) [] (now (a .gates)) (now (a .roots)) (now (a .map)) (now (a .next-images)) (now (a .root-images)) (now (a .gates-out)) (now (a .scratch))) _ _ (c .before .before .before .before .wide .ensures ∙ c .before .before .before .before .before .index .ensures) refl (c .before .before .before .if1 .left) (c .before .before .if2 .left) (c .before .if3 .left) (c .if4 .left)

@@ -1,4 +1,4 @@
--- `limits::over_in` meets its contract: nothing before i is over the bound, so the first of what is left is the first of all. Assumes nothing.
+-- `over_in` meets its contract: nothing before i is over the bound, so the first of what is left is the first of all. Assumes nothing.
 use borrow.Author.Needs.{zero≤, scaled-fits}
 use Rattle.checks.proofs.over_in.Statement.{statement}
 use Rattle.checks.proofs.over_in.Tie as tie

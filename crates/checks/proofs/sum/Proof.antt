@@ -1,4 +1,4 @@
--- `limits::sum` meets its contract: five counts of 32 bits cannot overflow the sum. Assumes nothing.
+-- `sum` meets its contract: five counts of 32 bits cannot overflow the sum. Assumes nothing.
 use borrow.Author.Needs.{needs}
 use Rattle.checks.proofs.sum.Statement.{statement}
 use Rattle.checks.proofs.sum.Tie as tie
