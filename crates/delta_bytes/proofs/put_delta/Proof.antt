@@ -11,10 +11,10 @@ returns : tie.Need-returns
 returns c = entry-short _ _ _ _ (c .if1 .taken)
 
 delta-code-requires : tie.Need-delta-code-requires
-delta-code-requires c κs = search needs
+delta-code-requires c κs = tt
 
 enum-known-value : tie.Need-enum-known-value
-enum-known-value c = search needs
+enum-known-value c = c .match .keys1
 
 put-value-requires : tie.Need-put-value-requires
 put-value-requires c κs =
@@ -23,10 +23,10 @@ put-value-requires c κs =
     (search needs, omega (arith, delta-used (a .s .now) (a .at) (a .reference) _ _ e))
 
 enum-known-why : tie.Need-enum-known-why
-enum-known-why c = search needs
+enum-known-why c = c .match .keys2
 
 number-requires : tie.Need-number-requires
-number-requires c κs = search needs
+number-requires c κs = tt
 
 same-length : tie.Need-same-length
 same-length c = search needs

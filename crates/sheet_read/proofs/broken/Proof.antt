@@ -2,15 +2,14 @@
 use mathlib.Core.Path.{ap, _∙_}
 use Prim.Native.Nat.{ℕ}
 use Rattle.sheet_read.specs.declared.Reading.the-variants.{Faulty}
-use borrow.Author.Needs.{needs}
 use Rattle.sheet_read.proofs.broken.Statement.{statement}
 use Rattle.sheet_read.proofs.broken.Tie as tie
 
 number-requires : tie.Need-number-requires
-number-requires c κs = search needs
+number-requires c κs = tt
 
 faulty-requires : tie.Need-faulty-requires
-faulty-requires c κs = search needs
+faulty-requires c κs = tt
 
 returns : tie.Need-returns
 returns c = c .faulty .ensures ∙ ap (λ (n : ℕ). Faulty n (c .before .before .args .place)) (c .before .number .ensures)

@@ -20,10 +20,10 @@ loop-holds : tie.Need-loop-holds Inv-loop μ-loop
 loop-holds c = filling-none _ _ _
 
 binary-uint-requires : tie.Need-binary-uint-requires Inv-loop μ-loop
-binary-uint-requires c κs = search needs
+binary-uint-requires c κs = tt
 
 enum-known-token : tie.Need-enum-known-token Inv-loop μ-loop
-enum-known-token c = search needs
+enum-known-token c = c .match .keys1
 
 mul-list : tie.Need-mul-list Inv-loop μ-loop
 mul-list c = search needs
@@ -44,7 +44,7 @@ loop-again : tie.Need-loop-again Inv-loop μ-loop
 loop-again c = filling-more (c .before .before .before .before .before .loop .inv) _ _ (omega arith) (sym (c .before .before .before .binary-uint .ensures) ∙ c .before .token .given .1)
 
 enum-known-token-2 : tie.Need-enum-known-token-2 Inv-loop μ-loop
-enum-known-token-2 c = search needs
+enum-known-token-2 c = c .match .keys2
 
 same-length : tie.Need-same-length Inv-loop μ-loop
 same-length c = c .before .before .before .before .before .loop .inv .same

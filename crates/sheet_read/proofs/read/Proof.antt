@@ -6,25 +6,25 @@ use Rattle.sheet_read.proofs.read.Statement.{statement}
 use Rattle.sheet_read.proofs.read.Tie as tie
 
 faulty-requires : tie.Need-faulty-requires
-faulty-requires c κs = search needs
+faulty-requires c κs = tt
 
 returns : tie.Need-returns
 returns c = sheet-long (now (c .before .before .before .args .sheet)) (now (c .before .before .before .args .header)) (now (c .before .before .before .args .codes)) _ (c .faulty .ensures) (c .before .if1 .taken)
 
 numbers-requires : tie.Need-numbers-requires
-numbers-requires c κs = search needs
+numbers-requires c κs = tt
 
 enum-known-end : tie.Need-enum-known-end
-enum-known-end c = search needs
+enum-known-end c = c .match .keys1
 
 read-lists-requires : tie.Need-read-lists-requires
 read-lists-requires c κs = search needs
 
 enum-known-end-2 : tie.Need-enum-known-end-2
-enum-known-end-2 c = search needs
+enum-known-end-2 c = c .match .keys2
 
 broken-requires : tie.Need-broken-requires
-broken-requires c κs = search needs
+broken-requires c κs = tt
 
 returns-2 : tie.Need-returns-2
 returns-2 c = sheet-lists (now (c .before .before .before .before .before .before .before .before .before .before .before .args .sheet)) (now (c .before .before .before .before .before .before .before .before .before .before .before .args .header)) (now (c .before .before .before .before .before .before .before .before .before .before .before .args .codes)) (c .before .before .before .before .before .before .before .before .before .if1 .left) (search needs) _ _ (c .before .before .before .before .before .before .before .numbers .ensures) _ _ _ (c .before .before .before .before .before .end .given .1) (c .read-lists .ensures)

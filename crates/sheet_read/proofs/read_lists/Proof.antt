@@ -14,7 +14,7 @@ too-large-requires : tie.Need-too-large-requires
 too-large-requires c κs = search needs
 
 faulty-requires : tie.Need-faulty-requires
-faulty-requires c κs = search needs
+faulty-requires c κs = tt
 
 returns : tie.Need-returns
 returns c = lists-large (now (c .before .before .before .before .before .before .args .sheet)) (now (c .before .before .before .before .before .before .args .header)) (now (c .before .before .before .before .before .before .args .codes)) (c .before .before .before .before .before .before .args .at) _ (c .faulty .ensures) (sym (c .before .before .too-large .ensures) ∙ c .before .if1 .taken)
@@ -23,7 +23,7 @@ shared-slice-read-if2 : tie.Need-shared-slice-read-if2
 shared-slice-read-if2 c = search needs
 
 faulty-requires-2 : tie.Need-faulty-requires-2
-faulty-requires-2 c κs = search needs
+faulty-requires-2 c κs = tt
 
 returns-2 : tie.Need-returns-2
 returns-2 c = lists-flagged (now (c .before .before .before .before .before .before .before .before .args .sheet)) (now (c .before .before .before .before .before .before .before .before .args .header)) (now (c .before .before .before .before .before .before .before .before .args .codes)) (c .before .before .before .before .before .before .before .before .args .at) _ (c .faulty2 .ensures) (sym (c .before .before .before .before .too-large .ensures) ∙ c .before .before .before .if1 .left) (c .before .if2 .taken)
@@ -38,13 +38,13 @@ slice-aggregate-numbers : tie.Need-slice-aggregate-numbers
 slice-aggregate-numbers c = let t : Taken (now (c .before .before .before .before .before .before .before .before .before .args .header)) = record { ten = c .before .before .before .before .before .before .before .before .before .pre .0; within = sym (c .before .before .before .before .before .too-large .ensures) ∙ c .before .before .before .before .if1 .left } in sym (length-take-le (c .before .code-count .result) (now (c .before .before .before .before .before .before .before .before .before .args .codes)) (omega (arith, c .before .code-count .ensures, c .before .before .before .before .before .before .before .before .before .pre .1, codes-few t)))
 
 numbers-requires : tie.Need-numbers-requires
-numbers-requires c κs = search needs
+numbers-requires c κs = tt
 
 enum-known-end : tie.Need-enum-known-end
-enum-known-end c = search needs
+enum-known-end c = c .match .keys1
 
 faulty-requires-3 : tie.Need-faulty-requires-3
-faulty-requires-3 c κs = search needs
+faulty-requires-3 c κs = tt
 
 same-length : tie.Need-same-length
 same-length c = search needs
@@ -53,10 +53,10 @@ returns-3 : tie.Need-returns-3
 returns-3 c = lists-more (now (c .before .before .before .before .before .before .before .before .before .before .before .before .before .before .before .before .before .args .sheet)) (now (c .before .before .before .before .before .before .before .before .before .before .before .before .before .before .before .before .before .args .header)) (now (c .before .before .before .before .before .before .before .before .before .before .before .before .before .before .before .before .before .args .codes)) (c .before .before .before .before .before .before .before .before .before .before .before .before .before .before .before .before .before .args .at) (sym (c .before .before .before .before .before .before .before .before .before .before .before .before .before .too-large .ensures) ∙ c .before .before .before .before .before .before .before .before .before .before .before .before .if1 .left) (c .before .before .before .before .before .before .before .before .before .before .if2 .left) (c .before .before .before .before .before .before .before .before .before .code-count .result) (c .before .before .before .before .before .before .before .before .before .code-count .ensures) (let t : Taken (now (c .before .before .before .before .before .before .before .before .before .before .before .before .before .before .before .before .before .args .header)) = record { ten = c .before .before .before .before .before .before .before .before .before .before .before .before .before .before .before .before .before .pre .0; within = sym (c .before .before .before .before .before .before .before .before .before .before .before .before .before .too-large .ensures) ∙ c .before .before .before .before .before .before .before .before .before .before .before .before .if1 .left } in omega (arith, c .before .before .before .before .before .before .before .before .before .code-count .ensures, c .before .before .before .before .before .before .before .before .before .before .before .before .before .before .before .before .before .pre .1, codes-few t)) _ _ _ (c .before .before .before .before .before .before .before .numbers .ensures) refl _ _ (c .faulty3 .ensures) (c .before .before .before .end .given .1) (c .before .if3 .taken)
 
 enum-known-end-2 : tie.Need-enum-known-end-2
-enum-known-end-2 c = search needs
+enum-known-end-2 c = c .match .keys2
 
 broken-requires : tie.Need-broken-requires
-broken-requires c κs = search needs
+broken-requires c κs = tt
 
 same-length-2 : tie.Need-same-length-2
 same-length-2 c = search needs

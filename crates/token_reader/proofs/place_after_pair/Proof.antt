@@ -4,13 +4,13 @@ use Rattle.token_reader.proofs.place_after_pair.Statement.{statement}
 use Rattle.token_reader.proofs.place_after_pair.Tie as tie
 
 enum-known-t : tie.Need-enum-known-t
-enum-known-t c = search needs
+enum-known-t c = c .match .keys1
 
 further-requires : tie.Need-further-requires
-further-requires c κs = search needs
+further-requires c κs = tt
 
 enum-known-t-2 : tie.Need-enum-known-t-2
-enum-known-t-2 c = search needs
+enum-known-t-2 c = c .match .keys2
 
 returns : tie.Need-returns
 returns c = cc

@@ -8,7 +8,7 @@ use Rattle.lit.specs.Code.{flippedBy}
 use Rattle.lent.proofs.Entries.{image-past, image-none, image-some}
 
 place-of-requires : tie.Need-place-of-requires
-place-of-requires c κs = search needs
+place-of-requires c κs = tt
 
 mul-entry : tie.Need-mul-entry
 mul-entry c = search needs
@@ -20,10 +20,10 @@ returns : tie.Need-returns
 returns c = image-none _ _ (c .before .before .before .place-of .result) (c .before .before .before .place-of .ensures) (c .before .before .if1 .taken) (c .if2 .taken)
 
 from-code-requires : tie.Need-from-code-requires
-from-code-requires c κs = search needs
+from-code-requires c κs = tt
 
 flipped-requires : tie.Need-flipped-requires
-flipped-requires c κs = search needs
+flipped-requires c κs = tt
 
 returns-2 : tie.Need-returns-2
 returns-2 c = image-some _ _ (c .before .before .before .before .before .place-of .result) _ (c .before .before .before .before .before .place-of .ensures) (c .before .before .before .before .if1 .taken) (c .before .before .if2 .left) (c .flipped .ensures ∙ ap (λ (t : Lit). flippedBy t (c .before .before .before .before .before .before .before .args .lit)) (c .before .from-code .ensures))

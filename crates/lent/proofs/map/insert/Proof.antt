@@ -7,13 +7,13 @@ use Rattle.lit.specs.declared.Lit.{Lit}
 use Rattle.lent.proofs.Entries.{store-within, store-past}
 
 place-of-requires : tie.Need-place-of-requires
-place-of-requires c κs = search needs
+place-of-requires c κs = tt
 
 flipped-requires : tie.Need-flipped-requires
-flipped-requires c κs = search needs
+flipped-requires c κs = tt
 
 code-requires : tie.Need-code-requires
-code-requires c κs = search needs
+code-requires c κs = tt
 
 mul-map : tie.Need-mul-map
 mul-map c = search needs

@@ -4,7 +4,7 @@ use Rattle.lent.proofs.words.fill.Statement.{statement}
 use Rattle.lent.proofs.words.fill.Tie as tie
 use native.Mathlib.Omega.{arith}
 use Prim.Native.Nat.{_≤_, _-_, _+_}
-use mathlib.Core.Path.{_≡_}
+use mathlib.Core.Path.{_≡_, refl}
 use mathlib.Core.List.{_++_}
 use lib.ListN.{length, replicate, drop, length-set}
 use borrow.Author.Fill.{fill-more}

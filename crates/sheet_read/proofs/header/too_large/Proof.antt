@@ -7,7 +7,6 @@ use lib.Seq.{length-take-le}
 use denote.Ref.{now}
 use Rattle.sheet_read.specs.Sheet.{sizeLimit}
 use Rattle.sheet_read.proofs.Headers.{none-found, large-found, large-roots}
-use borrow.Author.Needs.{needs}
 use Rattle.sheet_read.proofs.header.too_large.Statement.{statement}
 use Rattle.sheet_read.proofs.header.too_large.Tie as tie
 
@@ -15,16 +14,16 @@ slice-aggregate-first-over : tie.Need-slice-aggregate-first-over
 slice-aggregate-first-over c = sym (length-take-le 9 (now (c .before .before .args .header)) (omega (arith, c .before .before .pre)))
 
 first-over-requires : tie.Need-first-over-requires
-first-over-requires c κs = search needs
+first-over-requires c κs = tt
 
 enum-told : tie.Need-enum-told
-enum-told c = search needs
+enum-told c = c .match .keys1
 
 root-count-requires : tie.Need-root-count-requires
 root-count-requires c κs = record { ten = c .before .before .before .before .before .pre; nine = none-found sizeLimit (take 9 (now (c .before .before .before .before .before .args .header))) (sym (c .enum-told .given .1) ∙ c .before .before .first-over .ensures) }
 
 enum-known-offender : tie.Need-enum-known-offender
-enum-known-offender c = search needs
+enum-known-offender c = c .match .keys2
 
 returns : tie.Need-returns
 returns c = ap (ltb sizeLimit) (c .root-count .ensures) ∙ large-roots (now (c .before .before .before .before .before .before .args .header)) (none-found sizeLimit (take 9 (now (c .before .before .before .before .before .before .args .header))) (sym (c .before .enum-told .given .1) ∙ c .before .before .before .first-over .ensures))
