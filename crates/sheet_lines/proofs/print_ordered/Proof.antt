@@ -11,22 +11,22 @@ use Rattle.sheet_lines.proofs.print_ordered.Statement.{statement}
 use Rattle.sheet_lines.proofs.print_ordered.Tie as tie
 
 index-requires : tie.Need-index-requires
-index-requires c κs = search needs
+index-requires c κs = tt
 
 wide-requires : tie.Need-wide-requires
-wide-requires c κs = search needs
+wide-requires c κs = tt
 
 wide-requires-2 : tie.Need-wide-requires-2
-wide-requires-2 c κs = search needs
+wide-requires-2 c κs = tt
 
 wide-requires-3 : tie.Need-wide-requires-3
-wide-requires-3 c κs = search needs
+wide-requires-3 c κs = tt
 
 put-ordered-requires : tie.Need-put-ordered-requires
-put-ordered-requires c κs = search needs
+put-ordered-requires c κs = tt
 
 wide-requires-4 : tie.Need-wide-requires-4
-wide-requires-4 c κs = search needs
+wide-requires-4 c κs = tt
 
 add-first : tie.Need-add-first
 add-first c = search needs
@@ -41,10 +41,10 @@ put-gates-requires : tie.Need-put-gates-requires
 put-gates-requires c κs = search needs
 
 put-images-requires : tie.Need-put-images-requires
-put-images-requires c κs = search needs
+put-images-requires c κs = tt
 
 put-images-requires-2 : tie.Need-put-images-requires-2
-put-images-requires-2 c κs = search needs
+put-images-requires-2 c κs = tt
 
 same-length : tie.Need-same-length
 same-length c = search needs

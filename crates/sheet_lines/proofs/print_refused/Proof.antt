@@ -8,22 +8,22 @@ use Rattle.sheet_lines.proofs.print_refused.Statement.{statement}
 use Rattle.sheet_lines.proofs.print_refused.Tie as tie
 
 number-requires : tie.Need-number-requires
-number-requires c κs = search needs
+number-requires c κs = tt
 
 literal-requires : tie.Need-literal-requires
-literal-requires c κs = search needs
+literal-requires c κs = tt
 
 wide-requires : tie.Need-wide-requires
-wide-requires c κs = search needs
+wide-requires c κs = tt
 
 code-requires : tie.Need-code-requires
-code-requires c κs = search needs
+code-requires c κs = tt
 
 wide-requires-2 : tie.Need-wide-requires-2
-wide-requires-2 c κs = search needs
+wide-requires-2 c κs = tt
 
 put-refused-requires : tie.Need-put-refused-requires
-put-refused-requires c κs = search needs
+put-refused-requires c κs = tt
 
 same-length : tie.Need-same-length
 same-length c = search needs
@@ -32,10 +32,10 @@ returns : tie.Need-returns
 returns c = put-same (c .before .before .put-refused .ensures) (refused-literal (c .before .before .before .before .before .before .before .before .before .before .before .args .why) _ _ _ (c .before .before .before .before .before .wide .ensures) (c .before .before .before .wide2 .ensures ∙ c .before .before .before .before .code .ensures ∙ ap (λ (l : Lit). l .0) (c .before .before .before .before .before .before .before .literal .ensures)) (c .before .before .before .before .before .before .before .before .if1 .taken) (c .before .before .before .before .before .before .before .before .before .number .ensures))
 
 wide-requires-3 : tie.Need-wide-requires-3
-wide-requires-3 c κs = search needs
+wide-requires-3 c κs = tt
 
 put-refused-requires-2 : tie.Need-put-refused-requires-2
-put-refused-requires-2 c κs = search needs
+put-refused-requires-2 c κs = tt
 
 same-length-2 : tie.Need-same-length-2
 same-length-2 c = search needs

@@ -7,13 +7,13 @@ use Rattle.sheet_lines.proofs.put_gate.Statement.{statement}
 use Rattle.sheet_lines.proofs.put_gate.Tie as tie
 
 put-number-requires : tie.Need-put-number-requires
-put-number-requires c κs = search needs
+put-number-requires c κs = tt
 
 put-number-requires-2 : tie.Need-put-number-requires-2
-put-number-requires-2 c κs = search needs
+put-number-requires-2 c κs = tt
 
 put-number-requires-3 : tie.Need-put-number-requires-3
-put-number-requires-3 c κs = search needs
+put-number-requires-3 c κs = tt
 
 same-length : tie.Need-same-length
 same-length c = search needs

@@ -36,7 +36,7 @@ shared-slice-read-wide : tie.Need-shared-slice-read-wide Inv-loop μ-loop
 shared-slice-read-wide c = search needs
 
 wide-requires : tie.Need-wide-requires Inv-loop μ-loop
-wide-requires c κs = search needs
+wide-requires c κs = tt
 
 mul-wide-3 : tie.Need-mul-wide-3 Inv-loop μ-loop
 mul-wide-3 c = search needs
@@ -51,10 +51,10 @@ shared-slice-read-wide-2 : tie.Need-shared-slice-read-wide-2 Inv-loop μ-loop
 shared-slice-read-wide-2 c = search needs
 
 wide-requires-2 : tie.Need-wide-requires-2 Inv-loop μ-loop
-wide-requires-2 c κs = search needs
+wide-requires-2 c κs = tt
 
 put-gate-requires : tie.Need-put-gate-requires Inv-loop μ-loop
-put-gate-requires c κs = search needs
+put-gate-requires c κs = tt
 
 add-j : tie.Need-add-j Inv-loop μ-loop
 add-j c = search needs

@@ -7,10 +7,10 @@ use Rattle.sheet_lines.proofs.put_number.Statement.{statement}
 use Rattle.sheet_lines.proofs.put_number.Tie as tie
 
 put-decimal-requires : tie.Need-put-decimal-requires
-put-decimal-requires c κs = search needs
+put-decimal-requires c κs = tt
 
 put-requires : tie.Need-put-requires
-put-requires c κs = search needs
+put-requires c κs = tt
 
 same-length : tie.Need-same-length
 same-length c = search needs

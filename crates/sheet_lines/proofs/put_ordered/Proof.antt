@@ -10,19 +10,19 @@ slice-aggregate-put-bytes : tie.Need-slice-aggregate-put-bytes
 slice-aggregate-put-bytes c = search needs
 
 put-bytes-requires : tie.Need-put-bytes-requires
-put-bytes-requires c κs = search needs
+put-bytes-requires c κs = tt
 
 put-number-requires : tie.Need-put-number-requires
-put-number-requires c κs = search needs
+put-number-requires c κs = tt
 
 put-number-requires-2 : tie.Need-put-number-requires-2
-put-number-requires-2 c κs = search needs
+put-number-requires-2 c κs = tt
 
 put-number-requires-3 : tie.Need-put-number-requires-3
-put-number-requires-3 c κs = search needs
+put-number-requires-3 c κs = tt
 
 put-number-requires-4 : tie.Need-put-number-requires-4
-put-number-requires-4 c κs = search needs
+put-number-requires-4 c κs = tt
 
 same-length : tie.Need-same-length
 same-length c = search needs
