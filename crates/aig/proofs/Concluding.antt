@@ -1,6 +1,6 @@
 -- Over lists that are exactly as long as they must be: what the walks leave, with the images and a cleared scratch, is the outcome; and so are cleared
 -- lists, where they were refused. Assumes nothing.
-use Prim.Native.Nat.{ℕ, _+_, _*_, _-_, _≤_}
+use Prim.Native.Nat.{ℕ, _+_, _*_, _-_, _%_, _^_, _≤_}
 use mathlib.Core.Path.{_≡_, refl, ap, ap₂, _∙_, subst}
 use mathlib.Core.List.{List, _++_}
 use native.Mathlib.Omega.{arith}
@@ -21,7 +21,8 @@ use Rattle.lent.specs.Cleared.{Cleared}
 use Rattle.lent.proofs.Entries.{images-length}
 use Rattle.aig.specs.declared.walk.Walked.{Walked}
 use Rattle.aig.specs.declared.walk.Walked.the-variants.{Reached, Stopped}
-use Rattle.aig.specs.Whole.{concluded, madeWith, Exact}
+use Rattle.summary.specs.Summary.{madeWith}
+use Rattle.aig.specs.Whole.{concluded, Exact}
 use Rattle.aig.specs.Walked.{WalkRoom, WalkEnds}
 use Rattle.aig.proofs.Passing.{outcome-eq, alone, bareOf, answer, late, made-few}
 
@@ -90,15 +91,16 @@ module _ {l : Lent} (x : Exact l) where
         go (reached w) p q = absurd (let z : _≡_ {A = ℕ} 0 1 = cc in omega arith)
         go (stopped why′) p q = let z : why′ ≡ why = cc in p ∙ ap stopped z
 
-    pub finishes : (n q s s₀ : List ℕ) (made : ℕ) (a : Answer) → r ≡ Reached made → n ≡ imagesIn m (l .nexts) → q ≡ imagesIn m (l .roots) → s ≡ zeros (length s₀)
-        → length s₀ ≡ length (l .scratch) → a ≡ madeWith (length (l .inputs) + length (l .states)) made → outcomeOf a m n q g s ≡ concluded (bareOf l)
+    pub finishes : (n q s s₀ : List ℕ) (made i j : ℕ) (a : Answer) → r ≡ Reached made → n ≡ imagesIn m (l .nexts) → q ≡ imagesIn m (l .roots)
+        → s ≡ zeros (length s₀) → length s₀ ≡ length (l .scratch) → i ≡ length (l .inputs) + length (l .states) → j ≡ made → a ≡ madeWith i j
+        → outcomeOf a m n q g s ≡ concluded (bareOf l)
     unfolding concluded after orderedOf
-    finishes n q s s₀ made a e en eq es long ea =
+    finishes n q s s₀ made i j a e en eq es long ei ej ea =
         let w = worked made e in
-        let top-is : length (l .inputs) + length (l .states) + made ≡ length (l .inputs) + length (imagesIn (w .work .images) (l .nexts)) + length (w .work .made)
-        = omega (arith, images-length (w .work .images) (l .nexts), agr .latches, w .count) in
+        let top-is : (i + j) % 2 ^ 32 ≡ length (l .inputs) + length (imagesIn (w .work .images) (l .nexts)) + length (w .work .made)
+        = omega (arith, images-length (w .work .images) (l .nexts), agr .latches, w .count, sizes, made-low made e) in
         let answer-is : a ≡ Renumbered (summaryOf (orderedOf K (w .work)))
-        = ea ∙ ap₂ {C = Answer} (λ (i j : ℕ). Renumbered (record { made = i; top = variable j })) (w .count) top-is in
+        = ea ∙ ap₂ {C = Answer} (λ (x y : ℕ). Renumbered (record { made = x; top = variable y })) (ej ∙ w .count) top-is in
         rw (w .comes)
         (ap (λ (y : Answer). outcomeOf y m n q g s) answer-is
         ∙ outcome-eq (Renumbered (summaryOf (orderedOf K (w .work)))) (alone (w .work .images) m (w .images))

@@ -1,10 +1,7 @@
 -- What is known of the lent lists on the way from the checks to the walks. Assumes nothing.
-use Prim.Native.Nat.{ℕ, _+_, _*_}
+use Prim.Native.Nat.{_*_}
 use mathlib.Core.Path.{_≡_}
 use lib.ListN.{length}
-use Rattle.lit.specs.Code.{variable}
-use Rattle.circuit.specs.declared.Answer.{Answer}
-use Rattle.circuit.specs.declared.Answer.the-variants.{Renumbered}
 use Rattle.circuit.specs.Circuit.{renumber}
 use Rattle.circuit.specs.Outcome.{Lent, Outcome, circuitOf, mapWords, scratchWords, after}
 use Rattle.circuit.specs.Claims.{Passes}
@@ -12,10 +9,6 @@ use Rattle.circuit.specs.Claims.{Passes}
 -- what renumbering leaves of what is lent, where checks 1 to 3 are passed. Of nothing lent, it leaves all that it writes, and no cell past it
 unfoldable pub concluded : Lent → Outcome
 concluded l = after l (renumber (circuitOf l))
-
--- the answer where so many gates were made, after so many inputs and latches
-abbrev pub madeWith : ℕ → ℕ → Answer
-madeWith sources made = Renumbered (record { made = made; top = variable (sources + made) })
 
 -- checks 1 to 4 are passed, and each lent list is as long as it must be
 pub record Exact (l : Lent) : Type 0 where

@@ -12,18 +12,16 @@ mod walk;
 mod walks;
 
 ghost use mathlib.Core.Path.{_≡_};
-ghost use Prim.Native.Nat.{_+_, _^_, _<_};
 ghost use Rattle.circuit.specs.Map.{imageOf};
 ghost use Rattle.circuit.specs.Outcome.{lentOf, outcomeOf, outcome};
 ghost use Rattle.checks.specs.Lending.{bare};
-ghost use Rattle.aig.specs.Whole.{concluded, madeWith, Exact};
+ghost use Rattle.aig.specs.Whole.{concluded, Exact};
 ghost use Rattle.circuit.specs.Claims.{Passes};
 use checks::Check;
 use circuit::Answer;
 use circuit::CircuitRecord;
 use circuit::Image;
 use circuit::Refusal;
-use circuit::Summary;
 use lent::clearing;
 use lent::map;
 use lent::words;
@@ -40,18 +38,6 @@ pub fn lookup(map: &[u32], top: Var, lit: Lit) -> Image
         return Image::Absent;
     }
     map::image(map, lit)
-}
-
-// The answer where so many gates were made.
-fn renumbered(sources: usize, made: usize) -> Answer
-    requires { ⌜ sources + made < 2 ^ 32 ⌝ }
-    ensures { λ r. ⌜ r ≡ madeWith sources made ⌝ }
-{
-    let top = fit::word(sources + made);
-    Answer::Renumbered(Summary {
-        made: fit::word(made),
-        top: Var::from_index(top),
-    })
 }
 
 // Checks 5 and 6 and the walks, where every lent list is exactly as long as it must be.
@@ -87,7 +73,7 @@ fn renumber_exact(
             images::images(map, nexts, next_images);
             images::images(map, roots, root_images);
             words::fill(scratch, 0);
-            renumbered(inputs.len() + states.len(), made)
+            summary::renumbered(fit::word(inputs.len() + states.len()), fit::word(made))
         }
         Walked::Stopped(why) => {
             clearing::clear(map, next_images, root_images, gates_out, scratch);
