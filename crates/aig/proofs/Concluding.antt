@@ -1,110 +1,134 @@
--- Over lists that are exactly as long as they must be: what the walks leave, with the images and a cleared scratch, is the outcome; and so are cleared
--- lists, where they were refused. Assumes nothing.
-use Prim.Native.Nat.{ℕ, _+_, _*_, _-_, _%_, _^_, _≤_}
-use mathlib.Core.Path.{_≡_, refl, ap, ap₂, _∙_, subst}
-use mathlib.Core.List.{List, _++_}
+-- After the walks: what `ended` makes of what they leave is the outcome. Assumes nothing.
+use Prim.Native.Nat.{ℕ, _+_, _*_, _-_, _%_, _^_, _<_, _≤_}
+use mathlib.Core.Path.{_≡_, refl, sym, ap, ap₂, _∙_, subst}
+use mathlib.Core.List.{List, [], _∷_, _++_}
+use mathlib.Core.Logic.{inl, inr}
 use native.Mathlib.Omega.{arith}
-use lib.ListN.{length, replicate}
-use Rattle.lit.specs.Code.{variable}
+use lib.ListN.{length, take, drop, replicate, length-append, length-replicate, take-append-drop}
+use lib.Seq.{length-take-le, getD-take}
+use Rattle.lit.specs.Code.{var, variable}
 use Rattle.circuit.specs.declared.Answer.{Answer}
 use Rattle.circuit.specs.declared.Answer.the-variants.{Renumbered, Refused}
 use Rattle.circuit.specs.declared.Refusal.{Refusal}
-use Rattle.circuit.specs.Map.{noImage}
+use Rattle.circuit.specs.Graph.{In}
+use Rattle.circuit.specs.Map.{noImage, entryImage, imageIn, codeOf}
 use Rattle.circuit.specs.Walk.{Work, Out, reached, stopped}
 use Rattle.circuit.specs.Circuit.{Circuit, renumber}
 use Rattle.circuit.specs.Ordered.{imagesIn, orderedOf}
-use Rattle.circuit.specs.Outcome.{Lent, outcomeOf, circuitOf, mapWords, scratchWords, zeros, pairWords, summaryOf, after}
-use Rattle.circuit.specs.Claims.{Within, Agrees}
-use Rattle.circuit.proofs.Renumber.{Answered}
+use Rattle.circuit.specs.Outcome.{Lent, Outcome, lentOf, circuitOf, mapWords, scratchWords, zeros, onto, pairWords, summaryOf, after, outcome}
+use Rattle.circuit.specs.Claims.{Within, Agrees, Roomy, Passes}
+use Rattle.circuit.proofs.Settled.{settled-le}
+use Rattle.circuit.proofs.Words.{pairs-length}
+use Rattle.circuit.proofs.Renumber.{Done, Answered}
 use Rattle.circuit.proofs.Outcome as O
-use Rattle.lent.specs.Cleared.{Cleared}
+use Rattle.lent.specs.Over.{over}
+use Rattle.lent.proofs.Rows.{over-long}
 use Rattle.lent.proofs.Entries.{images-length}
-use Rattle.aig.specs.declared.walk.Walked.{Walked}
-use Rattle.aig.specs.declared.walk.Walked.the-variants.{Reached, Stopped}
-use Rattle.summary.specs.Summary.{madeWith}
-use Rattle.aig.specs.Whole.{concluded, Exact}
-use Rattle.aig.specs.Walked.{WalkRoom, WalkEnds}
-use Rattle.aig.proofs.Passing.{outcome-eq, alone, bareOf, answer, late, made-few}
+use Rattle.ending.specs.declared.Walked.{Walked}
+use Rattle.ending.specs.Ending.{madeWith, ended}
+use Rattle.ending.proofs.Ended.{outcome-eq}
+use Rattle.aig.specs.Walked.{WalkEnds, WalkIn, EndsIn}
+use Rattle.aig.proofs.Bounds.{next-low, root-low}
+use Rattle.aig.proofs.Passing.{bareOf, concludes, answer, late}
 
--- over lists that are exactly as long as they must be
-module _ {l : Lent} (x : Exact l) where
+-- a list by its front and by what stood past it in another
+joins : (k : ℕ) (x y ws : List ℕ) → take k x ≡ ws → drop k x ≡ drop k y → length ws ≡ k → x ≡ onto ws y
+joins k x y ws e f h =
+    sym (take-append-drop k x) ∙ ap₂ {C = List ℕ} (λ (p q : List ℕ). p ++ q) e (f ∙ ap (λ (j : ℕ). drop j y) (sym h))
+
+-- words over the front of a list that has the words of another past it
+over-past : (ws x y : List ℕ) → length ws ≤ length x → drop (length ws) x ≡ drop (length ws) y → over ws x ≡ onto ws y
+over-past ws x y h e = over-long ws x h ∙ ap (λ (t : List ℕ). ws ++ t) e
+
+-- the images in a map are those in its front, if that has a word for every variable
+images-front : (n : ℕ) (m cs : List ℕ) → ((c : ℕ) → In c cs → var c < n) → imagesIn m cs ≡ imagesIn (take n m) cs
+unfolding imagesIn imageIn
+images-front n m [] low = refl
+images-front n m (c ∷ cs) low =
+    ap₂ {C = List ℕ} (λ (y : ℕ) (ys : List ℕ). y ∷ ys) (ap (λ (e : ℕ). codeOf (entryImage e c)) (sym (getD-take n m (var c) noImage (low c (inl refl)))))
+    (images-front n m cs (λ d h. low d (inr h)))
+
+module _ (l : Lent) (p : Passes l) where
   abbrev K : Circuit
   K = circuitOf l
 
-  pub sizes : Within K
-  sizes = O.within l (x .passes .fits .one)
+  sizes : Within K
+  sizes = O.within l (p .fits .one)
 
-  pub agr : Agrees l
-  agr = O.agrees l (x .passes .fits .two)
+  agr : Agrees l
+  agr = O.agrees l (p .fits .two)
 
-  pub walk-room : WalkRoom (bareOf l) (l .map) (l .gatesOut) (l .scratch)
-  walk-room =
+  room : Roomy l K
+  room = O.roomy l (p .fits .three)
+
+  pub walk-in : WalkIn (bareOf l) (l .map) (l .gatesOut) (l .scratch)
+  walk-in =
       record {
         within = sizes;
         agrees = record { roots = agr .roots; latches = agr .latches; words = agr .words };
-        bounds = O.bounds l (x .passes);
-        four = x .passes .four;
-        mapLong = x .map;
-        outLong = x .gatesOut;
-        scratchLong = x .scratch;
+        bounds = O.bounds l p;
+        four = p .four;
+        mapLong = length-take-le _ (l .map) (room .map);
+        outLong = length-take-le _ (l .gatesOut) (room .gates);
+        scratchLong = length-take-le _ (l .scratch) (room .scratch);
       }
 
-  pub next-room : length (l .nextImages) ≡ length (l .nexts)
-  next-room = x .nextImages ∙ agr .latches
+  -- the lists m, g and s that the walks leave
+  module _ (r : Walked) (m g s : List ℕ) (k : EndsIn K (l .map) (l .gatesOut) (l .scratch) (renumber K) r m g s) (em : length m ≡ length (l .map))
+      (eg : length g ≡ length (l .gatesOut)) (es : length s ≡ length (l .scratch)) where
+    abbrev left : Lent
+    left = lentOf (l .circuit) (l .inputs) (l .states) (l .nexts) (l .gates) (l .roots) m (l .nextImages) (l .rootImages) g s
 
-  -- cleared lists are what a refusal leaves
-  pub clears : (why : Refusal) (m₀ n₀ r₀ g₀ s₀ m n r g s : List ℕ) → renumber K ≡ stopped why → Cleared m₀ n₀ r₀ g₀ s₀ m n r g s → length m₀ ≡ length (l .map)
-      → length n₀ ≡ length (l .nextImages) → length r₀ ≡ length (l .rootImages) → length g₀ ≡ length (l .gatesOut) → length s₀ ≡ length (l .scratch)
-      → outcomeOf (Refused why) m n r g s ≡ concluded (bareOf l)
-  unfolding concluded after
-  clears why m₀ n₀ r₀ g₀ s₀ m n r g s e k em en er eg es =
-      rw (e, late l (x .passes) why (subst (Answered K) e (answer l (x .passes))))
-      (outcome-eq (Refused why) (alone (replicate (mapWords K) noImage) m (k .noImages ∙ ap (λ (j : ℕ). replicate j noImage) (em ∙ x .map)))
-      (alone (zeros (length (l .states))) n (k .noNexts ∙ ap zeros (en ∙ x .nextImages)))
-      (alone (zeros (length (l .roots))) r (k .noRoots ∙ ap zeros (er ∙ x .rootImages)))
-      (alone (zeros (2 * length (K .gates))) g (k .noGates ∙ ap zeros (eg ∙ x .gatesOut)))
-      (alone (zeros (scratchWords K)) s (k .noWork ∙ ap zeros (es ∙ x .scratch))))
+    -- zeros, or other words, over as much of a list as is named
+    fill-is : (v n : ℕ) (x y : List ℕ) → n ≤ length x → drop n x ≡ drop n y → over (replicate n v) x ≡ onto (replicate n v) y
+    fill-is v n x y h e =
+        let i : length (replicate n v) ≡ n = length-replicate n v in
+        over-past (replicate n v) x y (omega arith) (ap (λ (j : ℕ). drop j x) i ∙ e ∙ ap (λ (j : ℕ). drop j y) (sym i))
 
-  module _ (r : Walked) (m g : List ℕ) (k : WalkEnds K (renumber K) r m g) where
-    -- the walks ended in work
-    record Worked (made : ℕ) : Type 0 where
-      work : Work
-      comes : renumber K ≡ reached work
-      count : made ≡ length (work .made)
-      images : m ≡ work .images
-      gates : g ≡ pairWords (work .made) ++ zeros (2 * (length (K .gates) - length (work .made)))
+    scratch-is : over (zeros (scratchWords K)) s ≡ onto (zeros (scratchWords K)) (l .scratch)
+    scratch-is = fill-is 0 (scratchWords K) s (l .scratch) (omega (arith, room .scratch, es)) (k .pastScratch)
 
-    worked : (made : ℕ) → r ≡ Reached made → Worked made
-    worked made e = go (renumber K) refl k
+    -- the images of a list of the circuit's codes
+    images-are : (w : Work) (cs y : List ℕ) → take (mapWords K) m ≡ w .images → ((c : ℕ) → In c cs → c ≤ 2 * K .top + 1) → length cs ≤ length y
+        → over (imagesIn m cs) y ≡ onto (imagesIn (w .images) cs) y
+    images-are w cs y e low h =
+        over-long (imagesIn m cs) y (omega (arith, images-length m cs, h))
+        ∙ ap (λ (is : List ℕ). onto is y) (images-front (mapWords K) m cs (λ c i. omega (arith, low c i)) ∙ ap (λ (x : List ℕ). imagesIn x cs) e)
+
+    succeeds : (w : Work) → renumber K ≡ reached w → WalkEnds K (reached w) r (take (mapWords K) m) (take (2 * length (K .gates)) g)
+        → ended r left ≡ after l (reached w)
+    unfolding ended after orderedOf
+    succeeds w e (er, ei, eo) =
+        let d : Done K w = subst (Answered K) e (answer l p) in
+        let few : length (w .made) ≤ length (K .gates) = omega (arith, d .inv .few, settled-le (w .images) (K .gates)) in
+        let rest : ℕ = 2 * (length (K .gates) - length (w .made)) in
+        let made-is : length (w .made) % 2 ^ 32 ≡ length (w .made) = omega (arith, few, sizes .gates) in
+        let top-is : (length (l .inputs) + length (l .states) + length (w .made)) % 2 ^ 32 ≡ length (l .inputs) + length (imagesIn (w .images) (l .nexts)) + length (w .made)
+        = omega (arith, images-length (w .images) (l .nexts), agr .latches, few, sizes) in
+        let answer-is : madeWith (length (l .inputs) + length (l .states)) (length (w .made)) ≡ Renumbered (summaryOf (orderedOf K w))
+        = ap₂ {C = Answer} (λ (x y : ℕ). Renumbered (record { made = x; top = variable y })) made-is top-is in
+        let long : length (pairWords (w .made) ++ zeros rest) ≡ 2 * length (K .gates)
+        = omega (arith, length-append (pairWords (w .made)) (zeros rest), length-replicate {A = ℕ} rest 0, pairs-length (w .made), few) in
+        rw er
+        (outcome-eq _ (joins (mapWords K) m (l .map) (w .images) ei (k .pastMap) (d .inv .size))
+        (images-are w (l .nexts) (l .nextImages) ei (λ c. next-low (O.bounds l p) agr c) (omega (arith, agr .latches, room .nexts)))
+        (images-are w (l .roots) (l .rootImages) ei (λ c. root-low (O.bounds l p) agr c) (room .roots))
+        (joins (2 * length (K .gates)) g (l .gatesOut) _ eo (k .pastOut) long) scratch-is
+        ∙ ap (λ (a : Answer). record { answer = a; map = onto (w .images) (l .map); nextImages = onto (imagesIn (w .images) (l .nexts)) (l .nextImages); rootImages = onto (imagesIn (w .images) (l .roots)) (l .rootImages); gatesOut = onto (pairWords (w .made) ++ zeros rest) (l .gatesOut); scratch = onto (zeros (scratchWords K)) (l .scratch) }) answer-is)
+
+    refuses : (why : Refusal) → renumber K ≡ stopped why → WalkEnds K (stopped why) r (take (mapWords K) m) (take (2 * length (K .gates)) g)
+        → ended r left ≡ after l (stopped why)
+    unfolding ended after
+    refuses why e er =
+        rw (er, late l p why (subst (Answered K) e (answer l p)))
+        (outcome-eq (Refused why) (fill-is noImage (mapWords K) m (l .map) (omega (arith, room .map, em)) (k .pastMap))
+        (fill-is 0 (length (l .states)) (l .nextImages) (l .nextImages) (room .nexts) refl)
+        (fill-is 0 (length (l .roots)) (l .rootImages) (l .rootImages) (room .roots) refl)
+        (fill-is 0 (2 * length (K .gates)) g (l .gatesOut) (omega (arith, room .gates, eg)) (k .pastOut)) scratch-is)
+
+    pub ends : ended r left ≡ outcome l
+    ends = go (renumber K) refl (k .ends) ∙ concludes l p
       where
-        go : (o : Out) → renumber K ≡ o → WalkEnds K o r m g → Worked made
-        go (reached w) p q = record { work = w; comes = p; count = cc; images = q .1; gates = q .2 }
-        go (stopped why) p q = absurd (let z : _≡_ {A = ℕ} 0 1 = cc in omega arith)
-
-    pub made-low : (made : ℕ) → r ≡ Reached made → made ≤ 1048575
-    made-low made e = let w = worked made e in omega (arith, w .count, made-few l (x .passes) (w .work) (w .comes), sizes .gates)
-
-    pub stops : (why : Refusal) → r ≡ Stopped why → renumber K ≡ stopped why
-    stops why e = go (renumber K) refl k
-      where
-        go : (o : Out) → renumber K ≡ o → WalkEnds K o r m g → renumber K ≡ stopped why
-        go (reached w) p q = absurd (let z : _≡_ {A = ℕ} 0 1 = cc in omega arith)
-        go (stopped why′) p q = let z : why′ ≡ why = cc in p ∙ ap stopped z
-
-    pub finishes : (n q s s₀ : List ℕ) (made i j : ℕ) (a : Answer) → r ≡ Reached made → n ≡ imagesIn m (l .nexts) → q ≡ imagesIn m (l .roots)
-        → s ≡ zeros (length s₀) → length s₀ ≡ length (l .scratch) → i ≡ length (l .inputs) + length (l .states) → j ≡ made → a ≡ madeWith i j
-        → outcomeOf a m n q g s ≡ concluded (bareOf l)
-    unfolding concluded after orderedOf
-    finishes n q s s₀ made i j a e en eq es long ei ej ea =
-        let w = worked made e in
-        let top-is : (i + j) % 2 ^ 32 ≡ length (l .inputs) + length (imagesIn (w .work .images) (l .nexts)) + length (w .work .made)
-        = omega (arith, images-length (w .work .images) (l .nexts), agr .latches, w .count, sizes, made-low made e) in
-        let answer-is : a ≡ Renumbered (summaryOf (orderedOf K (w .work)))
-        = ea ∙ ap₂ {C = Answer} (λ (x y : ℕ). Renumbered (record { made = x; top = variable y })) (ej ∙ w .count) top-is in
-        rw (w .comes)
-        (ap (λ (y : Answer). outcomeOf y m n q g s) answer-is
-        ∙ outcome-eq (Renumbered (summaryOf (orderedOf K (w .work)))) (alone (w .work .images) m (w .images))
-        (alone (imagesIn (w .work .images) (l .nexts)) n (en ∙ ap (λ (y : List ℕ). imagesIn y (l .nexts)) (w .images)))
-        (alone (imagesIn (w .work .images) (l .roots)) q (eq ∙ ap (λ (y : List ℕ). imagesIn y (l .roots)) (w .images)))
-        (alone _ g (w .gates))
-        (alone (zeros (scratchWords K)) s (es ∙ ap zeros (long ∙ x .scratch))))
+        go : (o : Out) → renumber K ≡ o → WalkEnds K o r (take (mapWords K) m) (take (2 * length (K .gates)) g) → ended r left ≡ after l (renumber K)
+        go (reached w) e q = succeeds w e q ∙ ap (after l) (sym e)
+        go (stopped why) e q = refuses why e q ∙ ap (after l) (sym e)

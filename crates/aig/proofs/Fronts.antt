@@ -1,131 +1,74 @@
--- The fronts of lent lists that may be longer: what is left of the fronts, with what stood past them, is the outcome of the whole lists. Assumes nothing.
-use Prim.Native.Nat.{ℕ, _+_, _*_, _-_, _/_, _≤_}
-use mathlib.Core.Path.{_≡_, refl, sym, ap, _∙_}
-use mathlib.Core.List.{List, [], _++_, map}
+-- The fronts of lists that may be longer: the walks run in them, and what stood past them stays. Assumes nothing.
+use Prim.Native.Nat.{ℕ, _+_, _*_, _/_, _≤_}
+use mathlib.Core.Path.{_≡_, sym, ap, _∙_, subst⁻¹}
+use mathlib.Core.List.{List, _++_}
 use native.Mathlib.Omega.{arith}
-use lib.ListN.{length, take, drop, replicate, length-append, length-replicate}
-use lib.Seq.{length-take-le}
-use Rattle.circuit.specs.declared.Answer.the-variants.{Refused}
-use Rattle.circuit.specs.declared.Refusal.{Refusal}
-use Rattle.circuit.specs.Map.{noImage}
-use Rattle.circuit.specs.Walk.{Work, Out, reached, stopped}
+use lib.ListN.{length, take, drop, length-append, length-take, length-drop}
+use lib.Seq.{take-at, drop-at}
 use Rattle.circuit.specs.Circuit.{Circuit, renumber}
-use Rattle.circuit.specs.Ordered.{imagesIn, orderedOf}
-use Rattle.circuit.specs.Outcome.{Lent, Outcome, lentOf, outcomeOf, circuitOf, mapWords, scratchWords, zeros, pairWords, onto, written, cleared, after}
-use Rattle.circuit.specs.Claims.{Within, Agrees, Roomy, Passes}
-use Rattle.circuit.proofs.Settled.{settled-le}
-use Rattle.circuit.proofs.Words.{gates-length, pairs-length}
-use Rattle.circuit.proofs.Renumber.{Done, Answered}
-use Rattle.circuit.proofs.Outcome as O
-use Rattle.aig.specs.Whole.{concluded, Exact}
-use Rattle.lent.proofs.Entries.{images-length}
-use Rattle.aig.proofs.Passing.{outcome-eq, onto-nil, bareOf, answer, late}
+use Rattle.circuit.specs.Outcome.{Lent, circuitOf, mapWords, scratchWords}
+use Rattle.circuit.proofs.Words.{gates-length}
+use Rattle.ending.specs.declared.Walked.{Walked}
+use Rattle.aig.specs.Walked.{WalkRoom, WalkEnds, WalkIn, EndsIn}
 
--- the words of a front, and what stood past it
-front : (ws lent : List ℕ) (n : ℕ) → length ws ≡ n → onto ws [] ++ drop n lent ≡ onto ws lent
-front ws lent n e = ap (λ (t : List ℕ). t ++ drop n lent) (onto-nil ws) ∙ ap (λ (k : ℕ). ws ++ drop k lent) (sym e)
+-- a front that is as long as it says lies within its list
+lies-in : (n : ℕ) (x : List ℕ) → length (take n x) ≡ n → n ≤ length x
+lies-in n x e = omega (arith, e, length-take n x)
 
--- the fronts of what is lent
-module _ (l : Lent) (p : Passes l) (n g : ℕ) (isWords : n ≡ circuitOf l .top + 1) (isCount : g ≡ length (l .gates) / 3) where
+-- what a front leaves of a list, by the words k that are named: the front, and what stood past it
+front-is : (k n : ℕ) (x y : List ℕ) → n ≡ k → length y ≡ length (take n x) → length (take n x) ≡ n → (take k (y ++ drop n x) ≡ y) × (drop k (y ++ drop n x) ≡ drop k x)
+front-is k n x y e f g =
+    let h : length y ≡ k = omega arith in
+    (take-at y (drop n x) k h, drop-at y (drop n x) k h ∙ ap (λ (j : ℕ). drop j x) e)
+
+pub whole : (n : ℕ) (x y : List ℕ) → length y ≡ length (take n x) → length (y ++ drop n x) ≡ length x
+whole n x y e = omega (arith, e, length-append y (drop n x), length-take n x, length-drop n x)
+
+module _ (l : Lent) (map out scratch : List ℕ) (x : WalkIn l map out scratch) (n g : ℕ) (isWords : n ≡ circuitOf l .top + 1)
+    (isCount : g ≡ length (l .gates) / 3) where
   abbrev C : Circuit
   C = circuitOf l
 
-  w : Within C
-  w = O.within l (p .fits .one)
+  pairs : 2 * g ≡ 2 * length (C .gates)
+  pairs = omega (arith, isCount, gates-length (l .gates))
 
-  a : Agrees l
-  a = O.agrees l (p .fits .two)
+  work : 3 * n + 3 * g ≡ scratchWords C
+  work = omega (arith, isWords, isCount, gates-length (l .gates))
 
-  r : Roomy l C
-  r = O.roomy l (p .fits .three)
-
-  abbrev pub fronts : Lent
+  pub fronts : WalkRoom l (take n map) (take (2 * g) out) (take (3 * n + 3 * g) scratch)
   fronts =
-      lentOf (l .circuit) (l .inputs) (l .states) (l .nexts) (l .gates) (l .roots) (take n (l .map)) (take (length (l .states)) (l .nextImages))
-      (take (length (l .roots)) (l .rootImages)) (take (2 * g) (l .gatesOut)) (take (3 * n + 3 * g) (l .scratch))
-
-  count : length (C .gates) ≡ g
-  count = gates-length (l .gates) ∙ sym isCount
-
-  -- each front lies within its list, and is as long as it says
-  pub mapFront : (n ≤ length (l .map)) × (length (fronts .map) ≡ n)
-  mapFront = let h : n ≤ length (l .map) = omega (arith, r .map) in (h, length-take-le n (l .map) h)
-
-  pub nextsFront : (length (l .states) ≤ length (l .nextImages)) × (length (fronts .nextImages) ≡ length (l .states))
-  nextsFront = (r .nexts, length-take-le (length (l .states)) (l .nextImages) (r .nexts))
-
-  pub rootsFront : (length (l .roots) ≤ length (l .rootImages)) × (length (fronts .rootImages) ≡ length (l .roots))
-  rootsFront = (r .roots, length-take-le (length (l .roots)) (l .rootImages) (r .roots))
-
-  pub gatesFront : (2 * g ≤ length (l .gatesOut)) × (length (fronts .gatesOut) ≡ 2 * g)
-  gatesFront = let h : 2 * g ≤ length (l .gatesOut) = omega (arith, r .gates, count) in (h, length-take-le (2 * g) (l .gatesOut) h)
-
-  pub scratchFront : (3 * n + 3 * g ≤ length (l .scratch)) × (length (fronts .scratch) ≡ 3 * n + 3 * g)
-  scratchFront = let h : 3 * n + 3 * g ≤ length (l .scratch) = omega (arith, r .scratch, count) in (h, length-take-le (3 * n + 3 * g) (l .scratch) h)
-
-  pub exact : Exact fronts
-  exact =
       record {
-        passes =
-            O.passes-exactly fronts .1 (
-              w,
-              record { roots = a .roots; latches = a .latches; words = a .words },
-              record {
-                map = omega (arith, mapFront .1);
-                nexts = omega (arith, nextsFront .1);
-                roots = omega (arith, rootsFront .1);
-                gates = omega (arith, gatesFront .1, count);
-                scratch = omega (arith, scratchFront .1, count);
-              },
-              O.bounds l p,
-            );
-        map = mapFront .1 ∙ isWords;
-        nextImages = nextsFront .1;
-        rootImages = rootsFront .1;
-        gatesOut = gatesFront .1 ∙ ap (λ (k : ℕ). 2 * k) (sym count);
-        scratch = omega (arith, scratchFront .1, count);
+        within = x .within;
+        agrees = x .agrees;
+        bounds = x .bounds;
+        four = x .four;
+        mapLong = ap (λ (k : ℕ). length (take k map)) isWords ∙ x .mapLong;
+        outLong = ap (λ (k : ℕ). length (take k out)) pairs ∙ x .outLong;
+        scratchLong = ap (λ (k : ℕ). length (take k scratch)) work ∙ x .scratchLong;
       }
 
-  -- what is left of the fronts, and what stood past them
-  abbrev pub spread : Outcome → Outcome
-  spread o =
-      outcomeOf (o .answer) (o .map ++ drop n (l .map)) (o .nextImages ++ drop (length (l .states)) (l .nextImages))
-      (o .rootImages ++ drop (length (l .roots)) (l .rootImages)) (o .gatesOut ++ drop (2 * g) (l .gatesOut)) (o .scratch ++ drop (3 * n + 3 * g) (l .scratch))
+  -- each front lies within its list, and is as long as it says
+  pub mapFront : (n ≤ length map) × (length (take n map) ≡ n)
+  mapFront = let e = fronts .mapLong ∙ sym isWords in (lies-in n map e, e)
 
-  zerosLong : (k j : ℕ) → k ≡ j → length (zeros k) ≡ j
-  zerosLong k j e = length-replicate k 0 ∙ e
+  pub outFront : (2 * g ≤ length out) × (length (take (2 * g) out) ≡ 2 * g)
+  outFront = let e = fronts .outLong ∙ sym pairs in (lies-in (2 * g) out e, e)
 
-  spread-cleared : (why : Refusal) → spread (cleared (bareOf l) C why) ≡ cleared l C why
-  spread-cleared why =
-      outcome-eq (Refused why) (front (replicate (mapWords C) noImage) (l .map) n (length-replicate (mapWords C) noImage ∙ sym isWords))
-      (front (zeros (length (l .states))) (l .nextImages) (length (l .states)) (zerosLong (length (l .states)) _ refl))
-      (front (zeros (length (l .roots))) (l .rootImages) (length (l .roots)) (zerosLong (length (l .roots)) _ refl))
-      (front (zeros (2 * length (C .gates))) (l .gatesOut) (2 * g) (zerosLong (2 * length (C .gates)) _ (omega (arith, count))))
-      (front (zeros (scratchWords C)) (l .scratch) (3 * n + 3 * g) (zerosLong (scratchWords C) _ (omega (arith, count))))
+  pub scratchFront : (3 * n + 3 * g ≤ length scratch) × (length (take (3 * n + 3 * g) scratch) ≡ 3 * n + 3 * g)
+  scratchFront = let e = fronts .scratchLong ∙ sym work in (lies-in (3 * n + 3 * g) scratch e, e)
 
-  spread-written : (x : Work) → Done C x → spread (written (bareOf l) C (x .images) (orderedOf C x)) ≡ written l C (x .images) (orderedOf C x)
-  unfolding orderedOf
-  spread-written x d =
-      let rest : ℕ = 2 * (length (C .gates) - length (x .made)) in
-      outcome-eq _ (front (x .images) (l .map) n (d .inv .size ∙ sym isWords))
-      (front (imagesIn (x .images) (l .nexts)) (l .nextImages) (length (l .states)) (images-length (x .images) (l .nexts) ∙ sym (a .latches)))
-      (front (imagesIn (x .images) (l .roots)) (l .rootImages) (length (l .roots)) (images-length (x .images) (l .roots)))
-      (front (pairWords (x .made) ++ zeros rest) (l .gatesOut) (2 * g)
-      (omega (
-        arith,
-        count,
-        length-append (pairWords (x .made)) (zeros rest),
-        length-replicate {A = ℕ} rest 0,
-        pairs-length (x .made),
-        d .inv .few,
-        settled-le (x .images) (C .gates),
-      )))
-      (front (zeros (scratchWords C)) (l .scratch) (3 * n + 3 * g) (zerosLong (scratchWords C) _ (omega (arith, count))))
-
-  pub spreads : spread (concluded (bareOf l)) ≡ concluded l
-  unfolding concluded after
-  spreads = go (renumber C) (answer l p)
-    where
-      go : (o : Out) → Answered C o → spread (after (bareOf l) o) ≡ after l o
-      go (reached x) d = spread-written x d
-      go (stopped why) k = rw (late l p why k) (spread-cleared why)
+  pub ends-in : (r : Walked) (m o s : List ℕ) → WalkEnds C (renumber C) r m o → length m ≡ length (take n map) → length o ≡ length (take (2 * g) out)
+      → length s ≡ length (take (3 * n + 3 * g) scratch)
+      → EndsIn C map out scratch (renumber C) r (m ++ drop n map) (o ++ drop (2 * g) out) (s ++ drop (3 * n + 3 * g) scratch)
+  ends-in r m o s k em eo es =
+      let fm = front-is (mapWords C) n map m isWords em (mapFront .1) in
+      let fo = front-is (2 * length (C .gates)) (2 * g) out o pairs eo (outFront .1) in
+      let fs = front-is (scratchWords C) (3 * n + 3 * g) scratch s work es (scratchFront .1) in
+      record {
+        ends =
+            subst⁻¹ (λ (y : List ℕ). WalkEnds C (renumber C) r y (take (2 * length (C .gates)) (o ++ drop (2 * g) out))) (fm .0)
+            (subst⁻¹ (λ (y : List ℕ). WalkEnds C (renumber C) r m y) (fo .0) k);
+        pastMap = fm .1;
+        pastOut = fo .1;
+        pastScratch = fs .1;
+      }

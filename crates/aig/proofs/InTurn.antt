@@ -18,8 +18,8 @@ use Rattle.circuit.proofs.Words.{gateAt}
 use Rattle.aig.specs.declared.shape.Shape.{Shape}
 use Rattle.aig.specs.declared.walk.Walk.{Walk}
 use Rattle.aig.specs.declared.walk.State.the-variants.{Transfer}
-use Rattle.aig.specs.declared.walk.Walked.{Walked}
-use Rattle.aig.specs.declared.walk.Walked.the-variants.{Reached, Stopped}
+use Rattle.ending.specs.declared.Walked.{Walked}
+use Rattle.ending.specs.declared.Walked.the-variants.{Reached, Stopped}
 use Rattle.defs.specs.Define.{noGate}
 use Rattle.defs.proofs.Definitions.{gates-at}
 use Rattle.aig.specs.Settle.{numbers}

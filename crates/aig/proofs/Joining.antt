@@ -18,8 +18,8 @@ use Rattle.circuit.proofs.Start.{start-inv}
 use Rattle.circuit.proofs.Words.{gates-length}
 use Rattle.circuit.proofs.Renumber.{Limits, sized, counting}
 use Rattle.aig.specs.declared.shape.Shape.{Shape}
-use Rattle.aig.specs.declared.walk.Walked.{Walked}
-use Rattle.aig.specs.declared.walk.Walked.the-variants.{Reached, Stopped}
+use Rattle.ending.specs.declared.Walked.{Walked}
+use Rattle.ending.specs.declared.Walked.the-variants.{Reached, Stopped}
 use Rattle.aig.specs.Table.{Tabled}
 use Rattle.aig.specs.Layout.{headsOf, nextsOf, Room}
 use Rattle.aig.specs.Chains.{Chains}

@@ -9,7 +9,7 @@ use Rattle.aig.specs.declared.shape.Shape.{Shape}
 use Rattle.aig.specs.declared.walk.Walk.{Walk}
 use Rattle.aig.specs.declared.walk.State.{State}
 use Rattle.aig.specs.declared.walk.State.the-variants.{Transfer, First, Second, Return, Reached, Stopped}
-use Rattle.aig.specs.declared.walk.Walked.the-variants as Walked
+use Rattle.ending.specs.declared.Walked.the-variants as Walked
 use Rattle.aig.specs.Going.{GoingAt, Going, Ground, Long}
 use Rattle.aig.specs.Turns.{Walking, toGo, Turns, Runs}
 use Rattle.aig.proofs.Standing.{lists-long}

@@ -5,11 +5,10 @@ use mathlib.Core.Path.{_≡_, refl, sym, ap, _∙_, subst, subst⁻¹}
 use mathlib.Core.Logic.{inl}
 use mathlib.Core.Bool.{Bool, true, false}
 use mathlib.Core.Option.{Option, none, some}
-use mathlib.Core.List.{List, [], _∷_, _++_, map, append-nil}
+use mathlib.Core.List.{List, [], _∷_, map}
 use native.Mathlib.Omega.{arith}
 use lib.Dec.{leb}
 use lib.ListN.{length}
-use lib.Seq.{drop-nil}
 use Rattle.lit.specs.Code.{var, literal}
 use Rattle.circuit.specs.declared.Answer.{Answer}
 use Rattle.circuit.specs.declared.Answer.the-variants.{Refused}
@@ -19,7 +18,7 @@ use Rattle.circuit.specs.Refusals.{refusalNumber}
 use Rattle.circuit.specs.Graph.{In}
 use Rattle.circuit.specs.Walk.{Work, Out, reached, walkAll}
 use Rattle.circuit.specs.Circuit.{Circuit, graph, net, codes, firstOver, firstAgain, definitions, start, walked, orRefuse, renumber}
-use Rattle.circuit.specs.Outcome.{Lent, outcomeOf, circuitOf, tooBig, misshapen, tooShort, orStop, conclusion, onto, untouched, after, outcome}
+use Rattle.circuit.specs.Outcome.{Lent, outcomeOf, circuitOf, tooBig, misshapen, tooShort, orStop, conclusion, untouched, after, outcome}
 use Rattle.circuit.specs.Claims.{Passes}
 use Rattle.circuit.proofs.Settled.{settled-le}
 use Rattle.circuit.proofs.Lists.{In-right}
@@ -28,19 +27,6 @@ use Rattle.circuit.proofs.Outcome as O
 use Rattle.checks.specs.declared.Check.the-variants.{Passed, Failed}
 use Rattle.checks.specs.Checks.{failIf, failAt, passing}
 use Rattle.checks.specs.Lending.{bare}
-use Rattle.aig.specs.Whole.{concluded}
-
-pub outcome-eq : (a : Answer) {m m′ n n′ r r′ g g′ s s′ : List ℕ} → m ≡ m′ → n ≡ n′ → r ≡ r′ → g ≡ g′ → s ≡ s′ → outcomeOf a m n r g s ≡ outcomeOf a m′ n′ r′ g′ s′
-outcome-eq a {m} {m′} {n} {n′} {r} {r′} {g} {g′} {s} {s′} p q e f h =
-    ap (λ (x : List ℕ). outcomeOf a x n r g s) p ∙ ap (λ (x : List ℕ). outcomeOf a m′ x r g s) q ∙ ap (λ (x : List ℕ). outcomeOf a m′ n′ x g s) e
-    ∙ ap (λ (x : List ℕ). outcomeOf a m′ n′ r′ x s) f ∙ ap (λ (x : List ℕ). outcomeOf a m′ n′ r′ g′ x) h
-
--- over nothing lent the words stand alone
-pub onto-nil : (ws : List ℕ) → onto ws [] ≡ ws
-onto-nil ws = ap (λ (t : List ℕ). ws ++ t) (drop-nil (length ws)) ∙ append-nil ws
-
-pub alone : (ws v : List ℕ) → v ≡ ws → v ≡ onto ws []
-alone ws v e = e ∙ sym (onto-nil ws)
 
 -- checks 1 to 4
 module _ (l : Lent) where
@@ -82,8 +68,8 @@ module _ (l : Lent) where
       go false p false q false r none s k = record { fits = record { one = p; two = q; three = r }; four = s }
 
   module _ (p : Passes l) where
-    pub concludes : concluded l ≡ outcome l
-    unfolding concluded outcome
+    pub concludes : after l (renumber C) ≡ outcome l
+    unfolding outcome
     concludes = ap (after l) (sym (O.conclusion-of l (p .fits)))
 
     pub answer : Answered C (renumber C)

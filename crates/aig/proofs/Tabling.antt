@@ -5,23 +5,25 @@ use mathlib.Core.Path.{_≡_, refl, sym, ap, _∙_, subst, subst⁻¹}
 use mathlib.Core.Option.{Option, none, some}
 use mathlib.Core.List.{List, [], _∷_, _++_, map}
 use native.Mathlib.Omega.{arith}
-use lib.ListN.{length, take, drop, length-append, length-drop, length-replicate}
+use lib.ListN.{length, take, drop, replicate, length-append, length-drop, length-replicate}
 use lib.Seq.{length-take-le, take-at, drop-at}
 use Rattle.lit.specs.Code.{var, literal}
 use Rattle.circuit.specs.declared.Refusal.{Refusal}
 use Rattle.circuit.specs.declared.Refusal.the-variants as R
 use Rattle.circuit.specs.Graph.{In, Distinct, outVar, DefinedOnce}
+use Rattle.circuit.specs.Map.{noImage, store}
 use Rattle.circuit.specs.Walk.{Out, stopped, walkAll}
-use Rattle.circuit.specs.Circuit.{Circuit, graph, net, gateOutputs, gateCodes, firstAgain, definitions, start, walked, orRefuse, renumber}
+use Rattle.circuit.specs.Circuit.{Circuit, graph, net, gateOutputs, gateCodes, firstAgain, definitions, storeFrom, start, walked, orRefuse, renumber}
 use Rattle.circuit.specs.Outcome.{Lent, circuitOf, gatesOf, mapWords, zeros}
 use Rattle.circuit.proofs.Checks.{Apart, Again, once, againTest, map-append, map-outputs, parts-join}
 use Rattle.checks.specs.declared.Check.{Check}
 use Rattle.checks.specs.declared.Check.the-variants.{Passed, Failed}
 use Rattle.checks.specs.Checks.{failAt}
-use Rattle.aig.specs.declared.walk.Walked.{Walked}
-use Rattle.aig.specs.declared.walk.Walked.the-variants.{Stopped}
-use Rattle.aig.specs.Lending.{MapRoom}
+use Rattle.ending.specs.declared.Walked.{Walked}
+use Rattle.ending.specs.declared.Walked.the-variants.{Stopped}
 use Rattle.aig.specs.Table.{Tabled, Codes}
+use Rattle.images.specs.Begin.{begun}
+use Rattle.images.proofs.Few.{few}
 use Rattle.defs.specs.Define.{judged, defineAll}
 use Rattle.aig.specs.Walked.{WalkRoom, WalkTabled, WalkReady, WalkEnds}
 use Rattle.aig.proofs.Bounds.{input-low, output-low, state-low}
@@ -70,9 +72,6 @@ module _ {l : Lent} {words out scratch : List ℕ} (x : WalkRoom l words out scr
           subst⁻¹ (λ (y : List ℕ). Distinct (0 ∷ (y ++ map outVar (D .gates)))) (map-append var (l .inputs) (l .states))
           (parts-join (map var (l .inputs)) (map var (l .states)) (map outVar (D .gates)) (subst Distinct io d)
           (subst (λ (y : List ℕ). Apart y (0 ∷ [])) io z) d′ (subst (λ (y : List ℕ). Apart (map var (l .states)) (0 ∷ y)) io n))
-
-  pub mapRoom : MapRoom (length words) (length (l .inputs)) (length (l .states))
-  mapRoom = record { some = omega (arith, x .mapLong); fewInputs = x .within .inputs; fewStates = x .within .latches }
 
   -- the front of cleared scratch, which becomes the table
   module _ (s : List ℕ) (clean : s ≡ zeros (length scratch)) where
@@ -182,19 +181,23 @@ module _ {l : Lent} {words out scratch : List ℕ} (t : WalkTabled l words out s
   pub walked-ends : (r : Walked) (m g : List ℕ) → WalkEnds K ends r m g → WalkEnds K (renumber K) r m g
   walked-ends r m g = subst⁻¹ (λ (o : Out). WalkEnds K o r m g) by-walks
 
-  pub ready : (m g : List ℕ) → m ≡ start (length words - 1) (l .inputs ++ l .states) .images → g ≡ zeros (length out) → WalkReady l m g scratch
+  -- the map at the start
+  begins : begun words (l .inputs) (l .states) ≡ start (K .top) (l .inputs ++ l .states) .images
+  unfolding start
+  begins =
+      sym (few words (l .inputs) (l .states) (t .room .within .inputs) (t .room .within .latches))
+      ∙ ap (λ (k : ℕ). storeFrom (store (replicate k noImage) 0 0) 2 (l .inputs ++ l .states)) (t .room .mapLong)
+
+  pub ready : (m g : List ℕ) → m ≡ begun words (l .inputs) (l .states) → g ≡ zeros (length out) → WalkReady l m g scratch
   ready m g e f =
       record {
         within = t .room .within;
         agrees = t .room .agrees;
         bounds = t .room .bounds;
         once = once-of (t .room) (t .five) (t .six);
-        mapped = e ∙ ap (λ (k : ℕ). start k (l .inputs ++ l .states) .images) top-is;
+        mapped = e ∙ begins;
         outs = f ∙ ap zeros (t .room .outLong);
         table = t .table;
         clean = t .clean;
         room = t .room .scratchLong;
       }
-    where
-      top-is : length words - 1 ≡ K .top
-      top-is = omega (arith, t .room .mapLong)

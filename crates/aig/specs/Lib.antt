@@ -1,4 +1,3 @@
-pub mod Lending
 pub mod Table
 pub mod Layout
 pub mod Stack
@@ -10,4 +9,3 @@ pub mod Going
 pub mod Turns
 pub mod Walks
 pub mod Walked
-pub mod Whole

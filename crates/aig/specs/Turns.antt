@@ -10,8 +10,8 @@ use Rattle.circuit.proofs.Settled.{settled}
 use Rattle.aig.specs.declared.shape.Shape.{Shape}
 use Rattle.aig.specs.declared.walk.State.{State}
 use Rattle.aig.specs.declared.walk.State.the-variants.{Transfer, First, Second, Return, Reached, Stopped}
-use Rattle.aig.specs.declared.walk.Walked.{Walked}
-use Rattle.aig.specs.declared.walk.Walked.the-variants as Walked
+use Rattle.ending.specs.declared.Walked.{Walked}
+use Rattle.ending.specs.declared.Walked.the-variants as Walked
 use Rattle.aig.specs.Layout.{stackOf}
 use Rattle.aig.specs.Going.{Going, Done, Over}
 

@@ -12,8 +12,8 @@ use Rattle.circuit.specs.Circuit.{Circuit, graph, codes, firstOver, firstAgain,
 use Rattle.circuit.specs.Outcome.{Lent, circuitOf, pairWords, zeros, mapWords, scratchWords}
 use Rattle.circuit.specs.Claims.{Within, Agrees, InBounds}
 use Rattle.aig.specs.Table.{Tabled}
-use Rattle.aig.specs.declared.walk.Walked.{Walked}
-use Rattle.aig.specs.declared.walk.Walked.the-variants.{Reached, Stopped}
+use Rattle.ending.specs.declared.Walked.{Walked}
+use Rattle.ending.specs.declared.Walked.the-variants.{Reached, Stopped}
 
 -- the circuit has passed checks 1, 2 and 4, and the lists are as long as they must be
 pub record WalkRoom (l : Lent) (map out scratch : List ℕ) : Type 0 where
@@ -49,3 +49,15 @@ abbrev pub WalkEnds : Circuit → Out → Walked → List ℕ → List ℕ → T
 WalkEnds C (reached w) r map out =
     (r ≡ Reached (length (w .made))) × (map ≡ w .images) × (out ≡ pairWords (w .made) ++ zeros (2 * (length (C .gates) - length (w .made))))
 WalkEnds C (stopped why) r map out = r ≡ Stopped why
+
+-- so it is in the fronts of lists that may be longer
+abbrev pub WalkIn : Lent → List ℕ → List ℕ → List ℕ → Type 0
+WalkIn l map out scratch =
+    WalkRoom l (take (mapWords (circuitOf l)) map) (take (2 * length (circuitOf l .gates)) out) (take (scratchWords (circuitOf l)) scratch)
+
+-- the walks have ended in the fronts, and what stood past them stands there still
+pub record EndsIn (C : Circuit) (map out scratch : List ℕ) (o : Out) (r : Walked) (map′ out′ scratch′ : List ℕ) : Type 0 where
+  pub ends : WalkEnds C o r (take (mapWords C) map′) (take (2 * length (C .gates)) out′)
+  pub pastMap : drop (mapWords C) map′ ≡ drop (mapWords C) map
+  pub pastOut : drop (2 * length (C .gates)) out′ ≡ drop (2 * length (C .gates)) out
+  pub pastScratch : drop (scratchWords C) scratch′ ≡ drop (scratchWords C) scratch

@@ -9,8 +9,8 @@ use Rattle.circuit.specs.Walk.{Work, Out, stopped, walkAll}
 use Rattle.circuit.specs.Outcome.{gatesOf}
 use Rattle.circuit.proofs.Invariant.{Inv}
 use Rattle.aig.specs.declared.shape.Shape.{Shape}
-use Rattle.aig.specs.declared.walk.Walked.{Walked}
-use Rattle.aig.specs.declared.walk.Walked.the-variants.{Reached, Stopped}
+use Rattle.ending.specs.declared.Walked.{Walked}
+use Rattle.ending.specs.declared.Walked.the-variants.{Reached, Stopped}
 use Rattle.aig.specs.Going.{netOf, topOf, Ground, Holds, Over}
 
 -- the lists hold what was done, and with these literals still to be walked all comes to o

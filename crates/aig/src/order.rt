@@ -7,7 +7,7 @@ use crate::shape::Shape;
 use crate::walk;
 use crate::walk::State;
 use crate::walk::Walk;
-use crate::walk::Walked;
+use ending::Walked;
 use lit::Lit;
 
 // One literal.

@@ -21,6 +21,7 @@ use crate::table;
 use crate::table::GateNumber;
 use circuit::Image;
 use circuit::Refusal;
+use ending::Walked;
 use fold::Already;
 use fold::Pair;
 use lent::map;
@@ -42,12 +43,6 @@ pub enum State {
     // a literal has its image
     Return(Walk),
     Reached(Walk),
-    Stopped(Refusal),
-}
-
-// How walks end: with so many gates made, or refused.
-pub enum Walked {
-    Reached(usize),
     Stopped(Refusal),
 }
 

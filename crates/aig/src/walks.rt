@@ -4,13 +4,12 @@ ghost use Rattle.circuit.specs.Circuit.{net, renumber, start};
 ghost use Rattle.circuit.specs.Circuit as definitions;
 ghost use Rattle.circuit.specs.Walk.{walkAll};
 ghost use Rattle.checks.specs.Lending.{bare, circuitIn};
-ghost use Rattle.aig.specs.Walked.{WalkRoom, WalkTabled, WalkEnds};
-use crate::images;
+ghost use Rattle.aig.specs.Walked.{WalkRoom, WalkTabled, WalkEnds, WalkIn, EndsIn};
 use crate::order;
 use crate::shape::Shape;
-use crate::walk::Walked;
 use checks::Check;
 use circuit::CircuitRecord;
+use ending::Walked;
 use lent::words;
 
 // The walks from the map at the start, where the table of definitions stands in the scratch: gate outputs unless trimmed, next states, roots.
@@ -51,7 +50,7 @@ fn walk_tabled(
 }
 
 // Checks 5 and 6, and the walks.
-pub fn walk_all(
+fn walk_all(
     circuit: CircuitRecord,
     inputs: &[u32],
     states: &[u32],
@@ -82,4 +81,35 @@ pub fn walk_all(
         ),
         Check::Failed(why) => Walked::Stopped(why),
     }
+}
+
+// The same, in the fronts of lent lists that may be longer.
+pub fn walk_fronts(
+    circuit: CircuitRecord,
+    inputs: &[u32],
+    states: &[u32],
+    nexts: &[u32],
+    gates: &[u32],
+    roots: &[u32],
+    map: &mut [u32],
+    gates_out: &mut [u32],
+    scratch: &mut [u32],
+) -> Walked
+    requires { ⌜ WalkIn (bare circuit (now inputs) (now states) (now nexts) (now gates) (now roots)) (now map) (now «gates_out») (now scratch) ⌝ }
+    ensures { λ r. ⌜ EndsIn (circuitIn circuit (now (inputs .entry)) (now (states .entry)) (now (nexts .entry)) (now (gates .entry)) (now (roots .entry))) (now (map .entry)) (now («gates_out» .entry)) (now (scratch .entry)) (renumber (circuitIn circuit (now (inputs .entry)) (now (states .entry)) (now (nexts .entry)) (now (gates .entry)) (now (roots .entry)))) r (now (map .exit)) (now («gates_out» .exit)) (now (scratch .exit)) ⌝ }
+{
+    let top = circuit.top;
+    let n = words::wide(top.index()) + 1;
+    let g = gates.len() / 3;
+    walk_all(
+        circuit,
+        inputs,
+        states,
+        nexts,
+        gates,
+        roots,
+        &mut map[..n],
+        &mut gates_out[..2 * g],
+        &mut scratch[..3 * n + 3 * g],
+    )
 }

@@ -14,7 +14,7 @@ use Rattle.circuit.specs.Map.{noImage, imageIn, imageOf, store, codeOf}
 use Rattle.circuit.specs.Circuit.{storeFrom, start}
 use Rattle.circuit.specs.Ordered.{imagesIn}
 use Rattle.circuit.proofs.Map.{entry, no-image, code-image}
-use Rattle.lent.proofs.Rows.{getD-any, copied-more, copied, drop-at-one, drop-at-end}
+use Rattle.lent.proofs.Rows.{getD-any, over-more, drop-at-one, drop-at-end}
 
 -- `i` is the code's own index
 pub image-past : (m : List ℕ) (c : Lit) (i : ℕ) → i ≡ var (c .0) → length m ≤ i → Absent ≡ imageIn m (c .0)
@@ -61,18 +61,15 @@ storeFrom-append : (m : List ℕ) (t : ℕ) (xs ys : List ℕ) → storeFrom m t
 storeFrom-append m t [] ys = ap (λ (k : ℕ). storeFrom m k ys) (omega arith)
 storeFrom-append m t (x ∷ xs) ys = storeFrom-append (store m x t) (t + 2) xs ys ∙ ap (λ (k : ℕ). storeFrom (storeFrom (store m x t) (t + 2) xs) k ys) (omega arith)
 
-pub started : (n : ℕ) (inputs states m₀ m₁ m₂ m₃ : List ℕ) (x y : Lit) (k : ℕ) → 0 < n → m₀ ≡ replicate n noImage → x ≡ literal 0 → y ≡ literal 0
+pub begun : (m inputs states m₀ m₁ m₂ m₃ : List ℕ) (x y : Lit) (k : ℕ) → m₀ ≡ replicate (length m) noImage → x ≡ literal 0 → y ≡ literal 0
     → m₁ ≡ store m₀ (x .0) (y .0) → m₂ ≡ storeFrom m₁ 2 inputs → k ≡ 2 + 2 * length inputs → m₃ ≡ storeFrom m₂ k states
-    → m₃ ≡ start (n - 1) (inputs ++ states) .images
-unfolding start
-started n inputs states m₀ m₁ m₂ m₃ x y k some e₀ ex ey e₁ e₂ e e₃ =
-    let s : n - 1 + 1 ≡ n = omega arith in
-    let f₁ : m₁ ≡ store (replicate n noImage) 0 0
+    → m₃ ≡ storeFrom (store (replicate (length m) noImage) 0 0) 2 (inputs ++ states)
+begun m inputs states m₀ m₁ m₂ m₃ x y k e₀ ex ey e₁ e₂ e e₃ =
+    let f₁ : m₁ ≡ store (replicate (length m) noImage) 0 0
     = e₁ ∙ ap (λ (l : Lit). store m₀ (l .0) (y .0)) ex ∙ ap (λ (l : Lit). store m₀ 0 (l .0)) ey ∙ ap (λ (m : List ℕ). store m 0 0) e₀ in
-    rw s
-    (e₃ ∙ ap (λ (j : ℕ). storeFrom m₂ j states) e
+    e₃ ∙ ap (λ (j : ℕ). storeFrom m₂ j states) e
     ∙ ap (λ (m : List ℕ). storeFrom m (2 + 2 * length inputs) states) (e₂ ∙ ap (λ (m : List ℕ). storeFrom m 2 inputs) f₁)
-    ∙ sym (storeFrom-append (store (replicate n noImage) 0 0) 2 inputs states))
+    ∙ sym (storeFrom-append (store (replicate (length m) noImage) 0 0) 2 inputs states)
 
 -- the images of a list, a literal a turn
 pub images-length : (m ls : List ℕ) → length (imagesIn m ls) ≡ length ls
@@ -83,11 +80,8 @@ images-at : (m ls : List ℕ) (i : ℕ) → i < length ls → codeOf (imageIn m 
 unfolding imagesIn
 images-at m ls i h = sym (List·getD-map (λ c. codeOf (imageIn m c)) ls i 0) ∙ getD-any (imagesIn m ls) i _ 0 (omega (arith, images-length m ls))
 
-pub images-more : (m ls o o′ : List ℕ) (i x : ℕ) (j : Image) (l : Lit) → length o ≡ length ls → i < length ls → o′ ≡ take i (imagesIn m ls) ++ drop i o
+pub images-more : (m ls o o′ : List ℕ) (i x : ℕ) (j : Image) (l : Lit) → i < length ls → i < length o → o′ ≡ take i (imagesIn m ls) ++ drop i o
     → x ≡ codeOf j → j ≡ imageIn m (l .0) → l ≡ literal (getD ls i 0) → set o′ i x ≡ take (i + 1) (imagesIn m ls) ++ drop (i + 1) o
-images-more m ls o o′ i x j l e h d f g k =
-    let b : x ≡ getD (imagesIn m ls) i 0 = f ∙ ap codeOf (g ∙ ap (λ (y : Lit). imageIn m (y .0)) k) ∙ images-at m ls i h in
-    rw (d, b) (copied-more (imagesIn m ls) o i (omega (arith, images-length m ls)) (omega (arith, images-length m ls)))
-
-pub images-done : (m ls o : List ℕ) (i : ℕ) → length o ≡ length ls → length ls ≤ i → take i (imagesIn m ls) ++ drop i o ≡ imagesIn m ls
-images-done m ls o i e h = copied (imagesIn m ls) o i (omega (arith, images-length m ls)) (omega (arith, images-length m ls))
+images-more m ls o o′ i x j l h k d f g e =
+    let b : x ≡ getD (imagesIn m ls) i 0 = f ∙ ap codeOf (g ∙ ap (λ (y : Lit). imageIn m (y .0)) e) ∙ images-at m ls i h in
+    rw d (over-more (imagesIn m ls) o i x (omega (arith, images-length m ls)) k b)

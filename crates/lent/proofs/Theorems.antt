@@ -8,6 +8,8 @@ use Rattle.lent.proofs.words.wide.Kinds as wide-kinds
 use Rattle.lent.proofs.words.wide.Reads as wide-contract
 use Rattle.lent.proofs.words.place_of.Kinds as place-kinds
 use Rattle.lent.proofs.words.place_of.Reads as place-contract
+use Rattle.lent.proofs.words.fill_front.Kinds as fill-front-kinds
+use Rattle.lent.proofs.words.fill_front.Reads as fill-front-contract
 use Rattle.lent.proofs.words.fill.Kinds as fill-kinds
 use Rattle.lent.proofs.words.fill.Reads as fill-contract
 use Rattle.lent.proofs.map.image.Kinds as image-kinds
@@ -16,14 +18,15 @@ use Rattle.lent.proofs.map.insert.Kinds as insert-kinds
 use Rattle.lent.proofs.map.insert.Reads as insert-contract
 use Rattle.lent.proofs.map.code_of.Kinds as code-kinds
 use Rattle.lent.proofs.map.code_of.Reads as code-contract
-use Rattle.lent.proofs.clearing.clear.Kinds as clear-kinds
-use Rattle.lent.proofs.clearing.clear.Reads as clear-contract
 
 pub one-wide : Determines 0 wide-kinds.ps wide-kinds.r wide-contract.Learnt
 one-wide κs a x y e f p q = p ∙ sym q
 
 pub one-place-of : Determines 0 place-kinds.ps place-kinds.r place-contract.Learnt
 one-place-of κs a x y e f p q = p ∙ sym q
+
+pub one-fill-front : DeterminesCells 1 fill-front-kinds.ps fill-front-kinds.r fill-front-contract.Learnt (λ κs e. now (e .0))
+one-fill-front κs a x y e f p q = (refl, p ∙ sym q)
 
 pub one-fill : DeterminesCells 1 fill-kinds.ps fill-kinds.r fill-contract.Learnt (λ κs e. now (e .0))
 one-fill κs a x y e f p q = (refl, p ∙ sym q)
@@ -36,11 +39,3 @@ one-insert κs a x y e f p q = (refl, p ∙ sym q)
 
 pub one-code-of : Determines 0 code-kinds.ps code-kinds.r code-contract.Learnt
 one-code-of κs a x y e f p q = p ∙ sym q
-
-pub one-clear :
-    DeterminesCells 5 clear-kinds.ps clear-kinds.r clear-contract.Learnt {A = List ℕ × List ℕ × List ℕ × List ℕ × List ℕ}
-    (λ κs e. (now (e .0), now (e .1 .0), now (e .1 .1 .0), now (e .1 .1 .1 .0), now (e .1 .1 .1 .1 .0)))
-one-clear κs a x y e f p q = (
-  refl,
-  rw (p .noImages, p .noNexts, p .noRoots, p .noGates, p .noWork, q .noImages, q .noNexts, q .noRoots, q .noGates, q .noWork),
-)

@@ -1,4 +1,3 @@
-// Words that a caller lends: filling them, clearing what a refusal clears, and the map of images. Each function takes whatever it is lent.
-pub mod clearing;
+// Words that a caller lends: filling them, and the map of images. Each function takes whatever it is lent.
 pub mod map;
 pub mod words;

@@ -2,6 +2,7 @@
 ghost use mathlib.Core.Path.{_≡_};
 ghost use lib.ListN.{length, replicate};
 ghost use Rattle.lit.specs.Code.{var};
+ghost use Rattle.lent.specs.Over.{over};
 use lit::Lit;
 
 // The word as a number that counts or indexes.
@@ -18,13 +19,24 @@ pub fn place_of(lit: Lit) -> usize
     wide(lit.var().index())
 }
 
+// Puts the value into the first `count` words, as far as there are so many.
+pub fn fill_front(words: &mut [u32], count: usize, value: u32)
+    ensures { λ _. ⌜ now (words .exit) ≡ over (replicate count value) (now (words .entry)) ⌝ }
+{
+    let mut i = 0;
+    while i < count {
+        if words.len() <= i {
+            return;
+        }
+        words[i] = value;
+        i += 1;
+    }
+}
+
 // Puts the value into every word.
 pub fn fill(words: &mut [u32], value: u32)
     ensures { λ _. ⌜ now (words .exit) ≡ replicate (length (now (words .entry))) value ⌝ }
 {
-    let mut i = 0;
-    while i < words.len() {
-        words[i] = value;
-        i += 1;
-    }
+    let count = words.len();
+    fill_front(words, count, value);
 }

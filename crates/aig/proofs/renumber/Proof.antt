@@ -1,10 +1,12 @@
--- `renumber` meets its contract: checks 1 to 4 refuse at once, or leave the outcome to renumbering (proofs/Passing.antt). Assumes nothing.
+-- `renumber` meets its contract: checks 1 to 4 refuse at once, or leave the outcome to renumbering (proofs/Passing.antt), whose end is the outcome
+-- (proofs/Concluding.antt). Assumes nothing.
 use Rattle.aig.proofs.renumber.Statement.{statement}
 use Rattle.aig.proofs.renumber.Tie as tie
 use denote.Ref.{now}
 use mathlib.Core.Path.{refl, sym, _∙_}
 use Rattle.circuit.specs.Outcome.{lentOf}
-use Rattle.aig.proofs.Passing.{passed, concludes, failed}
+use Rattle.aig.proofs.Passing.{passed, failed}
+use Rattle.aig.proofs.Concluding.{walk-in, ends}
 
 checked-requires : tie.Need-checked-requires
 checked-requires c κs = tt
@@ -12,29 +14,36 @@ checked-requires c κs = tt
 enum-told : tie.Need-enum-told
 enum-told c = c .match .keys1
 
-renumber-fronts-requires : tie.Need-renumber-fronts-requires
-renumber-fronts-requires c κs = let a = c .before .before .before .before .before .before .before .before .before .before .before .before .before .before .before .before .before .before .before .before .before .before .before .args in passed (lentOf (a .circuit) (now (a .inputs)) (now (a .states)) (now (a .nexts)) (now (a .gates)) (now (a .roots)) (now (a .map)) (now (a .next-images)) (now (a .root-images)) (now (a .gates-out)) (now (a .scratch))) (sym (c .before .before .before .before .before .before .before .checked .ensures) ∙ c .before .before .before .before .before .enum-told .given .1)
+walk-fronts-requires : tie.Need-walk-fronts-requires
+walk-fronts-requires c κs =
+    let a = c .before .before .before .before .before .before .before .before .before .before .before .before .before .before .before .before .before .before .before .before .before .args in
+    walk-in (lentOf (a .circuit) (now (a .inputs)) (now (a .states)) (now (a .nexts)) (now (a .gates)) (now (a .roots)) (now (a .map)) (now (a .next-images)) (now (a .root-images)) (now (a .gates-out)) (now (a .scratch))) (passed (lentOf (a .circuit) (now (a .inputs)) (now (a .states)) (now (a .nexts)) (now (a .gates)) (now (a .roots)) (now (a .map)) (now (a .next-images)) (now (a .root-images)) (now (a .gates-out)) (now (a .scratch))) (sym (c .before .before .before .before .before .checked .ensures) ∙ c .before .before .before .enum-told .given .1))
+
+conclude-requires : tie.Need-conclude-requires
+conclude-requires c κs = tt
 
 enum-known-check : tie.Need-enum-known-check
 enum-known-check c = c .match .keys2
 
 same-length : tie.Need-same-length
-same-length c = c .before .before .before .before .before .before .before .before .before .before .renumber-fronts .kept .1 .1 .1 .1 .1 .1 .0
+same-length c = c .before .before .before .before .before .before .before .before .before .before .conclude .kept .1 .1 .1 .1 .1 .1 .1 .0 ∙ c .before .before .before .before .before .before .before .before .before .before .before .before .before .before .before .before .before .before .before .before .before .before .walk-fronts .kept .1 .1 .1 .1 .1 .1 .0
 
 same-length-2 : tie.Need-same-length-2
-same-length-2 c = c .before .before .before .before .before .before .before .before .before .before .renumber-fronts .kept .1 .1 .1 .1 .1 .1 .1 .0
+same-length-2 c = c .before .before .before .before .before .before .before .before .before .before .conclude .kept .1 .1 .1 .1 .1 .1 .1 .1 .0
 
 same-length-3 : tie.Need-same-length-3
-same-length-3 c = c .before .before .before .before .before .before .before .before .before .before .renumber-fronts .kept .1 .1 .1 .1 .1 .1 .1 .1 .0
+same-length-3 c = c .before .before .before .before .before .before .before .before .before .before .conclude .kept .1 .1 .1 .1 .1 .1 .1 .1 .1 .0
 
 same-length-4 : tie.Need-same-length-4
-same-length-4 c = c .before .before .before .before .before .before .before .before .before .before .renumber-fronts .kept .1 .1 .1 .1 .1 .1 .1 .1 .1 .0
+same-length-4 c = c .before .before .before .before .before .before .before .before .before .before .conclude .kept .1 .1 .1 .1 .1 .1 .1 .1 .1 .1 .0 ∙ c .before .before .before .before .before .before .before .before .before .before .before .before .before .before .before .before .before .before .before .before .before .before .walk-fronts .kept .1 .1 .1 .1 .1 .1 .1 .0
 
 same-length-5 : tie.Need-same-length-5
-same-length-5 c = c .before .before .before .before .before .before .before .before .before .before .renumber-fronts .kept .1 .1 .1 .1 .1 .1 .1 .1 .1 .1 .0
+same-length-5 c = c .before .before .before .before .before .before .before .before .before .before .conclude .kept .1 .1 .1 .1 .1 .1 .1 .1 .1 .1 .1 .0 ∙ c .before .before .before .before .before .before .before .before .before .before .before .before .before .before .before .before .before .before .before .before .before .before .walk-fronts .kept .1 .1 .1 .1 .1 .1 .1 .1 .0
 
 returns : tie.Need-returns
-returns c = let a = c .before .before .before .before .before .before .before .before .before .before .before .before .before .before .before .before .before .before .before .before .before .before .before .before .before .before .before .before .before .before .before .before .before .before .args in c .before .before .before .before .before .before .before .before .before .before .renumber-fronts .ensures ∙ concludes (lentOf (a .circuit) (now (a .inputs)) (now (a .states)) (now (a .nexts)) (now (a .gates)) (now (a .roots)) (now (a .map)) (now (a .next-images)) (now (a .root-images)) (now (a .gates-out)) (now (a .scratch))) (passed (lentOf (a .circuit) (now (a .inputs)) (now (a .states)) (now (a .nexts)) (now (a .gates)) (now (a .roots)) (now (a .map)) (now (a .next-images)) (now (a .root-images)) (now (a .gates-out)) (now (a .scratch))) (sym (c .before .before .before .before .before .before .before .before .before .before .before .before .before .before .before .before .before .before .checked .ensures) ∙ c .before .before .before .before .before .before .before .before .before .before .before .before .before .before .before .before .enum-told .given .1))
+returns c =
+    let a = c .before .before .before .before .before .before .before .before .before .before .before .before .before .before .before .before .before .before .before .before .before .before .before .before .before .before .before .before .before .before .before .before .before .before .before .before .before .before .before .before .before .before .before .before .args in
+    c .before .before .before .before .before .before .before .before .before .before .conclude .ensures ∙ ends (lentOf (a .circuit) (now (a .inputs)) (now (a .states)) (now (a .nexts)) (now (a .gates)) (now (a .roots)) (now (a .map)) (now (a .next-images)) (now (a .root-images)) (now (a .gates-out)) (now (a .scratch))) (passed (lentOf (a .circuit) (now (a .inputs)) (now (a .states)) (now (a .nexts)) (now (a .gates)) (now (a .roots)) (now (a .map)) (now (a .next-images)) (now (a .root-images)) (now (a .gates-out)) (now (a .scratch))) (sym (c .before .before .before .before .before .before .before .before .before .before .before .before .before .before .before .before .before .before .before .before .before .before .before .before .before .before .before .before .checked .ensures) ∙ c .before .before .before .before .before .before .before .before .before .before .before .before .before .before .before .before .before .before .before .before .before .before .before .before .before .before .enum-told .given .1)) _ _ _ _ (c .before .before .before .before .before .before .before .before .before .before .before .before .before .before .before .before .before .before .before .before .before .before .walk-fronts .ensures) (c .before .before .before .before .before .before .before .before .before .before .before .before .before .before .before .before .before .before .before .before .before .before .walk-fronts .kept .1 .1 .1 .1 .1 .1 .0) (c .before .before .before .before .before .before .before .before .before .before .before .before .before .before .before .before .before .before .before .before .before .before .walk-fronts .kept .1 .1 .1 .1 .1 .1 .1 .0) (c .before .before .before .before .before .before .before .before .before .before .before .before .before .before .before .before .before .before .before .before .before .before .walk-fronts .kept .1 .1 .1 .1 .1 .1 .1 .1 .0)
 
 same-length-6 : tie.Need-same-length-6
 same-length-6 c = refl
@@ -52,7 +61,9 @@ same-length-10 : tie.Need-same-length-10
 same-length-10 c = refl
 
 returns-2 : tie.Need-returns-2
-returns-2 c = let a = c .before .before .before .before .before .before .before .before .before .before .before .before .before .before .before .before .before .before .before .args in failed (lentOf (a .circuit) (now (a .inputs)) (now (a .states)) (now (a .nexts)) (now (a .gates)) (now (a .roots)) (now (a .map)) (now (a .next-images)) (now (a .root-images)) (now (a .gates-out)) (now (a .scratch))) _ (sym (c .before .before .before .checked .ensures) ∙ c .before .check .given .1)
+returns-2 c =
+    let a = c .before .before .before .before .before .before .before .before .before .before .before .before .before .before .before .before .before .before .before .args in
+    failed (lentOf (a .circuit) (now (a .inputs)) (now (a .states)) (now (a .nexts)) (now (a .gates)) (now (a .roots)) (now (a .map)) (now (a .next-images)) (now (a .root-images)) (now (a .gates-out)) (now (a .scratch))) _ (sym (c .before .before .before .checked .ensures) ∙ c .before .check .given .1)
 
 pub renumber-spec : {M : Type 1} → statement M
 renumber-spec =
@@ -60,7 +71,8 @@ renumber-spec =
     (tie.spec
     checked-requires
     enum-told
-    renumber-fronts-requires
+    walk-fronts-requires
+    conclude-requires
     enum-known-check
     same-length
     same-length-2

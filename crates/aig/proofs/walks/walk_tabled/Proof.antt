@@ -4,14 +4,14 @@ use Rattle.aig.proofs.walks.walk_tabled.Statement.{statement}
 use Rattle.aig.proofs.walks.walk_tabled.Tie as tie
 use mathlib.Core.Path.{_∙_}
 use lib.ListN.{length}
-use Rattle.aig.proofs.Tabling.{mapRoom, ready}
+use Rattle.aig.proofs.Tabling.{ready}
 use Rattle.aig.proofs.Joining.{can-walk, walks-end}
 
 fill-requires : tie.Need-fill-requires
 fill-requires c κs = tt
 
 begin-requires : tie.Need-begin-requires
-begin-requires c κs = mapRoom (c .before .before .before .before .before .before .before .before .before .before .before .before .before .pre .room)
+begin-requires c κs = tt
 
 add-t21 : tie.Need-add-t21
 add-t21 c = search needs
