@@ -1,32 +1,27 @@
 -- Literals walked in turn: a walk of one leaves the others waiting, so lists are walked literal by literal, and lists one after another. Assumes nothing.
-use Prim.Native.Nat.{ℕ, zero, suc, _+_, _*_, _-_, _<_, _≤_}
+use Prim.Native.Nat.{ℕ, zero, suc, _+_, _-_, _%_, _<_, _≤_}
 use mathlib.Core.Path.{_≡_, refl, sym, _∙_, ap, subst}
 use mathlib.Core.Bool.{Bool, true, false, cond}
-use mathlib.Core.List.{List, [], _∷_, _++_, append-assoc, map}
+use mathlib.Core.List.{List, [], _∷_, _++_, append-assoc}
 use native.Mathlib.Omega.{arith}
-use native.Mathlib.Numerals.{add-one}
-use lib.ListN.{length, getD, drop, length-append, length-map, List·getD-append, drop-of-length-le}
-use lib.Seq.{drop-cons, getD-append-add}
+use lib.ListN.{length, getD, take, length-append, List·getD-append}
+use lib.Seq.{getD-append-add, take-length}
 use Rattle.lit.specs.Code.{var, literal}
 use Rattle.lit.specs.declared.Lit.{Lit}
 use Rattle.circuit.specs.declared.Refusal.{Refusal}
-use Rattle.circuit.specs.Graph.{Gate}
 use Rattle.circuit.specs.Walk.{Out, reached, stopped, andThen, stackRoom, walk, walkAll}
-use Rattle.circuit.specs.Outcome.{gatesOf}
 use Rattle.circuit.proofs.Machine.{comesTo-start}
-use Rattle.circuit.proofs.Words.{gateAt}
 use Rattle.aig.specs.declared.shape.Shape.{Shape}
 use Rattle.aig.specs.declared.walk.Walk.{Walk}
+use Rattle.aig.specs.declared.walk.State.{State}
 use Rattle.aig.specs.declared.walk.State.the-variants.{Transfer}
 use Rattle.ending.specs.declared.Walked.{Walked}
 use Rattle.ending.specs.declared.Walked.the-variants.{Reached, Stopped}
-use Rattle.defs.specs.Define.{noGate}
-use Rattle.defs.proofs.Definitions.{gates-at}
 use Rattle.aig.specs.Settle.{numbers}
 use Rattle.aig.specs.Going.{netOf, Going, Long}
 use Rattle.aig.specs.Turns.{Walking, Ended, Runs}
-use Rattle.aig.specs.Walks.{Waiting, Waits, AllInside, CanWalk, Walks, outputsOf}
-use Rattle.aig.proofs.Standing.{lists-long, gate-count}
+use Rattle.aig.specs.Walks.{Waiting, Waits, AllInside, CanGoOn, GoesOn, CanWalk, Walks, outputsOf, everyFrom, turns}
+use Rattle.aig.proofs.Standing.{lists-long}
 
 module _ {s : Shape} {sources gates : List ℕ} {o : Out} {made : ℕ} {c : ℕ} {rest images out scratch : List ℕ}
     (w : Waiting s sources gates o made (c ∷ rest) images out scratch) where
@@ -59,111 +54,117 @@ module _ {s : Shape} {sources gates : List ℕ} {o : Out} {made : ℕ} {c : ℕ}
       record { ground = w .ground; work = d .work; holds = d .holds; inv = d .inv; comes = goes-on (reached (d .work)) (d .comes) }
   ends-in (Stopped why) images′ out′ scratch′ d = record { long = d .long; comes = goes-on (stopped why) (d .comes) }
 
--- one literal
-module _ {s : Shape} {gates : List ℕ} {made : ℕ} {l : Lit} {images out scratch : List ℕ} {n : Walk} (e : n ≡ numbers 0 made) where
-  pub one-starts : CanWalk s gates made (l .0 ∷ []) images out scratch → Walking s gates (Transfer n l) images out scratch
-  one-starts k = rw e (record { sources = k .sources; o = first (k .waiting); going = starts (k .waiting) (k .inside 0 (omega arith)) })
+-- every step-th literal of a list
+every-next : (step i : ℕ) (l : List ℕ) → 0 < step → i < length l → everyFrom step i l ≡ getD l i 0 ∷ everyFrom step (i + step) l
+every-next zero i l p h = absurd (omega arith)
+every-next (suc n) i [] p h = absurd (omega arith)
+every-next (suc n) zero (x ∷ xs) p h =
+    let e : 0 + suc n ≡ suc (suc n - 1) = omega arith in
+    ap (λ (j : ℕ). x ∷ everyFrom (suc n) j (x ∷ xs)) (sym e)
+every-next (suc n) (suc i) (x ∷ xs) p h =
+    let e : suc i + suc n ≡ suc (i + suc n) = omega arith in
+    every-next (suc n) i xs p (omega arith) ∙ ap (λ (j : ℕ). getD xs i 0 ∷ everyFrom (suc n) j (x ∷ xs)) (sym e)
 
-  pub one-walked : (r : Walked) (images′ out′ scratch′ : List ℕ) → CanWalk s gates made (l .0 ∷ []) images out scratch
-      → Runs s gates (Transfer n l) images out scratch r images′ out′ scratch′ → Walks s gates made (l .0 ∷ []) images out scratch r images′ out′ scratch′
-  one-walked r images′ out′ scratch′ k runs sources o rest w =
-      ends-in w r images′ out′ scratch′
-      (runs sources (first w) (subst (λ (x : Walk). Going s sources gates (first w) (Transfer x l) images out scratch) (sym e) (starts w (k .inside 0 (omega arith)))))
+every-end : (step i : ℕ) (l : List ℕ) → length l ≤ i → everyFrom step i l ≡ []
+every-end step i [] h = refl
+every-end step zero (x ∷ xs) h = absurd (omega arith)
+every-end step (suc i) (x ∷ xs) h = every-end step i xs (omega arith)
 
--- a list, of which i literals have been walked
-pub record Listing (s : Shape) (gates cs : List ℕ) (made₀ : ℕ) (images₀ out₀ scratch₀ : List ℕ) (i made : ℕ) (images out scratch : List ℕ) : Type 0 where
-  pub upto : i ≤ length cs
-  pub start : CanWalk s gates made₀ cs images₀ out₀ scratch₀
-  pub same : (sources : List ℕ) (o : Out) (rest : List ℕ) → Waiting s sources gates o made₀ (cs ++ rest) images₀ out₀ scratch₀
-      → Waiting s sources gates o made (drop i cs ++ rest) images out scratch
+-- with step 1 all of them
+every-one : (l : List ℕ) → everyFrom 1 0 l ≡ l
+every-one [] = refl
+every-one (x ∷ xs) = ap (λ (r : List ℕ). x ∷ r) (every-one xs)
 
-waiting-long : {s : Shape} {sources gates : List ℕ} {o : Out} {made : ℕ} {cs images out scratch : List ℕ} → Waiting s sources gates o made cs images out scratch
-    → Long s images out scratch
-waiting-long w = lists-long (w .ground) (w .holds) (w .inv)
+-- with step 3 the outputs of the gates
+every-third : (gates : List ℕ) → length gates % 3 ≡ 0 → everyFrom 3 0 gates ≡ outputsOf gates
+every-third [] h = refl
+every-third (o ∷ []) h = absurd (omega arith)
+every-third (o ∷ a ∷ []) h = absurd (omega arith)
+every-third (o ∷ a ∷ b ∷ rest) h = ap (λ (r : List ℕ). o ∷ r) (every-third rest (omega arith))
 
 waits-long : (s : Shape) (sources gates : List ℕ) (o : Out) (cs : List ℕ) (r : Walked) (images out scratch : List ℕ) → Waits s sources gates o cs r images out scratch
     → Long s images out scratch
-waits-long s sources gates o cs (Reached made) images out scratch w = waiting-long w
+waits-long s sources gates o cs (Reached made) images out scratch w = lists-long (w .ground) (w .holds) (w .inv)
 waits-long s sources gates o cs (Stopped why) images out scratch w = w .long
 
-module _ {s : Shape} {gates cs : List ℕ} {made₀ : ℕ} {images₀ out₀ scratch₀ : List ℕ} where
-  pub listing-start : CanWalk s gates made₀ cs images₀ out₀ scratch₀ → Listing s gates cs made₀ images₀ out₀ scratch₀ 0 made₀ images₀ out₀ scratch₀
-  listing-start k = record { upto = omega arith; start = k; same = λ sources o rest w. w }
+-- a list that is walked up to place i
+pub record Listing (s : Shape) (gates lits : List ℕ) (step : ℕ) (from : Walked) (images₀ out₀ scratch₀ : List ℕ) (i : ℕ) (end : Walked) (images out scratch : List ℕ)
+    : Type 0 where
+  pub some : 0 < step
+  pub inside : AllInside s (everyFrom step i lits)
+  pub start : CanGoOn s gates (everyFrom step 0 lits) from images₀ out₀ scratch₀
+  pub same : (sources : List ℕ) (o : Out) (rest : List ℕ) → Waits s sources gates o (everyFrom step 0 lits ++ rest) from images₀ out₀ scratch₀
+      → Waits s sources gates o (everyFrom step i lits ++ rest) end images out scratch
 
-  module _ {i made : ℕ} {images out scratch : List ℕ} (k : Listing s gates cs made₀ images₀ out₀ scratch₀ i made images out scratch) where
-    -- the next literal, and those after it
-    module _ {l : Lit} (h : i < length cs) (e : l .0 ≡ getD cs i 0) where
-      next-one : (sources : List ℕ) (o : Out) (rest : List ℕ) → Waiting s sources gates o made (drop i cs ++ rest) images out scratch
-          → Waiting s sources gates o made ((l .0 ∷ []) ++ (drop (i + 1) cs ++ rest)) images out scratch
-      next-one sources o rest w =
-          subst (λ (x : List ℕ). Waiting s sources gates o made x images out scratch)
-          (ap (λ (x : List ℕ). x ++ rest) (drop-cons cs i 0 h)
-          ∙ ap (λ (x : ℕ). x ∷ (drop (suc i) cs ++ rest)) (sym e) ∙ ap (λ (j : ℕ). l .0 ∷ (drop j cs ++ rest)) (sym (add-one i)))
-          w
+module _ {s : Shape} {gates lits : List ℕ} {step : ℕ} {from : Walked} {images₀ out₀ scratch₀ : List ℕ} where
+  pub listing-start : 0 < step → CanGoOn s gates (everyFrom step 0 lits) from images₀ out₀ scratch₀
+      → Listing s gates lits step from images₀ out₀ scratch₀ 0 from images₀ out₀ scratch₀
+  listing-start p k = record { some = p; inside = k .inside; start = k; same = λ sources o rest w. w }
 
-      pub listing-one : CanWalk s gates made (l .0 ∷ []) images out scratch
+  module _ {i : ℕ} {end : Walked} {images out scratch : List ℕ} (k : Listing s gates lits step from images₀ out₀ scratch₀ i end images out scratch) where
+    -- the literal at place i is walked next
+    module _ {made : ℕ} {n : Walk} {l : Lit} (q : end ≡ Reached made) (h : i < length lits) (e : n ≡ numbers 0 made) (f : l ≡ literal (getD lits i 0)) where
+      next : everyFrom step i lits ≡ getD lits i 0 ∷ everyFrom step (i + step) lits
+      next = every-next step i lits (k .some) h
+
+      is-next : Transfer (numbers 0 made) (literal (getD lits i 0)) ≡ Transfer n l
+      is-next = rw (e, f) refl
+
+      inside-next : AllInside s (getD lits i 0 ∷ everyFrom step (i + step) lits)
+      inside-next = subst (AllInside s) next (k .inside)
+
+      waits-next : (sources : List ℕ) (o : Out) (rest : List ℕ) → Waits s sources gates o (everyFrom step 0 lits ++ rest) from images₀ out₀ scratch₀
+          → Waiting s sources gates o made (getD lits i 0 ∷ (everyFrom step (i + step) lits ++ rest)) images out scratch
+      waits-next sources o rest w =
+          subst (λ (x : Walked). Waits s sources gates o (getD lits i 0 ∷ (everyFrom step (i + step) lits ++ rest)) x images out scratch) q
+          (subst (λ (cs : List ℕ). Waits s sources gates o (cs ++ rest) end images out scratch) next (k .same sources o rest w))
+
+      pub listing-one : Walking s gates (Transfer n l) images out scratch
       listing-one =
+          let w = waits-next (k .start .sources) (k .start .o) (k .start .rest) (k .start .waiting) in
+          subst (λ (t : State). Walking s gates t images out scratch) is-next
+          (record { sources = k .start .sources; o = first w; going = starts w (inside-next 0 (omega arith)) })
+
+      pub listing-on : (r : Walked) (images′ out′ scratch′ : List ℕ) → Runs s gates (Transfer n l) images out scratch r images′ out′ scratch′
+          → Listing s gates lits step from images₀ out₀ scratch₀ (i + step) r images′ out′ scratch′
+      listing-on r images′ out′ scratch′ runs =
           record {
-            inside = inside;
-            sources = k .start .sources;
-            o = k .start .o;
-            rest = drop (i + 1) cs ++ k .start .rest;
-            waiting = next-one _ _ _ (k .same _ _ _ (k .start .waiting));
+            some = k .some;
+            inside = λ j p. inside-next (suc j) (omega arith);
+            start = k .start;
+            same =
+                λ sources o rest w₀.
+                let w = waits-next sources o rest w₀ in
+                ends-in w r images′ out′ scratch′
+                (runs sources (first w)
+                (subst (λ (t : State). Going s sources gates (first w) t images out scratch) is-next (starts w (inside-next 0 (omega arith)))));
           }
-        where
-          inside : AllInside s (l .0 ∷ [])
-          inside zero p = subst (λ (c : ℕ). var c < s .vars) (sym e) (k .start .inside i h)
-          inside (suc j) p = absurd (omega arith)
 
-      module _ (r : Walked) (images′ out′ scratch′ : List ℕ) (t : Walks s gates made (l .0 ∷ []) images out scratch r images′ out′ scratch′) where
-        walked-one : (sources : List ℕ) (o : Out) (rest : List ℕ) → Waiting s sources gates o made₀ (cs ++ rest) images₀ out₀ scratch₀
-            → Waits s sources gates o (drop (i + 1) cs ++ rest) r images′ out′ scratch′
-        walked-one sources o rest w = t sources o (drop (i + 1) cs ++ rest) (next-one sources o rest (k .same sources o rest w))
+    pub listing-stop : (why : Refusal) → end ≡ Stopped why → GoesOn s gates (everyFrom step 0 lits) from images₀ out₀ scratch₀ (Stopped why) images out scratch
+    listing-stop why q sources o rest w =
+        subst (λ (x : Walked). Waits s sources gates o (everyFrom step i lits ++ rest) x images out scratch) q (k .same sources o rest w)
 
-        turn-long : Long s images′ out′ scratch′
-        turn-long =
-            waits-long s (k .start .sources) gates (k .start .o) (drop (i + 1) cs ++ k .start .rest) r images′ out′ scratch′
-            (walked-one (k .start .sources) (k .start .o) (k .start .rest) (k .start .waiting))
+    pub listing-end : length lits ≤ i → GoesOn s gates (everyFrom step 0 lits) from images₀ out₀ scratch₀ end images out scratch
+    listing-end h sources o rest w =
+        subst (λ (cs : List ℕ). Waits s sources gates o (cs ++ rest) end images out scratch) (every-end step i lits h) (k .same sources o rest w)
 
-        -- the lists are as long as they were
-        pub turn-map : length images′ ≡ length images₀
-        turn-map = turn-long .ofMap ∙ sym (waiting-long (k .start .waiting) .ofMap)
+    -- the lists are as long as they were
+    long₀ : Long s images₀ out₀ scratch₀
+    long₀ = waits-long s (k .start .sources) gates (k .start .o) (everyFrom step 0 lits ++ k .start .rest) from images₀ out₀ scratch₀ (k .start .waiting)
 
-        pub turn-out : length out′ ≡ length out₀
-        turn-out = turn-long .ofOut ∙ sym (waiting-long (k .start .waiting) .ofOut)
-
-        pub turn-scratch : length scratch′ ≡ length scratch₀
-        turn-scratch = turn-long .ofScratch ∙ sym (waiting-long (k .start .waiting) .ofScratch)
-
-        pub listing-on : (n : ℕ) → r ≡ Reached n → Listing s gates cs made₀ images₀ out₀ scratch₀ (i + 1) n images′ out′ scratch′
-        listing-on n q =
-            record {
-              upto = omega arith;
-              start = k .start;
-              same =
-                  λ sources o rest w.
-                  subst (λ (x : Walked). Waits s sources gates o (drop (i + 1) cs ++ rest) x images′ out′ scratch′) q (walked-one sources o rest w);
-            }
-
-        pub listing-stop : (why : Refusal) → r ≡ Stopped why → Walks s gates made₀ cs images₀ out₀ scratch₀ (Stopped why) images′ out′ scratch′
-        listing-stop why q sources o rest w =
-            subst (λ (x : Walked). Waits s sources gates o (drop (i + 1) cs ++ rest) x images′ out′ scratch′) q (walked-one sources o rest w)
-
-    listing-long : Long s images out scratch
-    listing-long = waiting-long (k .same (k .start .sources) (k .start .o) (k .start .rest) (k .start .waiting))
+    long : Long s images out scratch
+    long =
+        waits-long s (k .start .sources) gates (k .start .o) (everyFrom step i lits ++ k .start .rest) end images out scratch
+        (k .same (k .start .sources) (k .start .o) (k .start .rest) (k .start .waiting))
 
     pub listing-map : length images ≡ length images₀
-    listing-map = listing-long .ofMap ∙ sym (waiting-long (k .start .waiting) .ofMap)
+    listing-map = long .ofMap ∙ sym (long₀ .ofMap)
 
     pub listing-out : length out ≡ length out₀
-    listing-out = listing-long .ofOut ∙ sym (waiting-long (k .start .waiting) .ofOut)
+    listing-out = long .ofOut ∙ sym (long₀ .ofOut)
 
     pub listing-scratch : length scratch ≡ length scratch₀
-    listing-scratch = listing-long .ofScratch ∙ sym (waiting-long (k .start .waiting) .ofScratch)
-
-    pub listing-end : length cs ≤ i → Walks s gates made₀ cs images₀ out₀ scratch₀ (Reached made) images out scratch
-    listing-end h sources o rest w =
-        subst (λ (x : List ℕ). Waiting s sources gates o made (x ++ rest) images out scratch) (drop-of-length-le cs h) (k .same sources o rest w)
+    listing-scratch = long .ofScratch ∙ sym (long₀ .ofScratch)
 
 -- two lists one after the other
 inside-left : (s : Shape) (a b : List ℕ) → AllInside s (a ++ b) → AllInside s a
@@ -172,74 +173,67 @@ inside-left s a b h i p = subst (λ (c : ℕ). var c < s .vars) (List·getD-appe
 inside-right : (s : Shape) (a b : List ℕ) → AllInside s (a ++ b) → AllInside s b
 inside-right s a b h i p = subst (λ (c : ℕ). var c < s .vars) (getD-append-add a b i 0) (h (length a + i) (omega (arith, length-append a b)))
 
-module _ {s : Shape} {gates : List ℕ} {made : ℕ} (a b : List ℕ) {images out scratch : List ℕ} where
-  regroup : (sources : List ℕ) (o : Out) (rest : List ℕ) → Waiting s sources gates o made ((a ++ b) ++ rest) images out scratch
-      → Waiting s sources gates o made (a ++ (b ++ rest)) images out scratch
-  regroup sources o rest w = subst (λ (x : List ℕ). Waiting s sources gates o made x images out scratch) (append-assoc a b rest) w
+module _ (s : Shape) (gates a b : List ℕ) (from : Walked) (images out scratch : List ℕ) where
+  regroup : (sources : List ℕ) (o : Out) (rest : List ℕ) → Waits s sources gates o ((a ++ b) ++ rest) from images out scratch
+      → Waits s sources gates o (a ++ (b ++ rest)) from images out scratch
+  regroup sources o rest w = subst (λ (cs : List ℕ). Waits s sources gates o cs from images out scratch) (append-assoc a b rest) w
 
-  module _ (k : CanWalk s gates made (a ++ b) images out scratch) where
-    pub first-can : CanWalk s gates made a images out scratch
-    first-can =
-        record {
-          inside = inside-left s a b (k .inside);
-          sources = k .sources;
-          o = k .o;
-          rest = b ++ k .rest;
-          waiting = regroup _ _ _ (k .waiting);
-        }
+  first-can : CanGoOn s gates (a ++ b) from images out scratch → CanGoOn s gates a from images out scratch
+  first-can k =
+      record {
+        inside = inside-left s a b (k .inside);
+        sources = k .sources;
+        o = k .o;
+        rest = b ++ k .rest;
+        waiting = regroup (k .sources) (k .o) (k .rest) (k .waiting);
+      }
 
-    pub second-can : (r : Walked) (images′ out′ scratch′ : List ℕ) → Walks s gates made a images out scratch r images′ out′ scratch′ → (n : ℕ) → r ≡ Reached n
-        → CanWalk s gates n b images′ out′ scratch′
-    second-can r images′ out′ scratch′ t n q =
-        record {
-          inside = inside-right s a b (k .inside);
-          sources = k .sources;
-          o = k .o;
-          rest = k .rest;
-          waiting =
-              subst (λ (x : Walked). Waits s (k .sources) gates (k .o) (b ++ k .rest) x images′ out′ scratch′) q
-              (t (k .sources) (k .o) (b ++ k .rest) (regroup _ _ _ (k .waiting)));
-        }
+  second-can : (r : Walked) (images′ out′ scratch′ : List ℕ) → GoesOn s gates a from images out scratch r images′ out′ scratch′
+      → CanGoOn s gates (a ++ b) from images out scratch → CanGoOn s gates b r images′ out′ scratch′
+  second-can r images′ out′ scratch′ t k =
+      record {
+        inside = inside-right s a b (k .inside);
+        sources = k .sources;
+        o = k .o;
+        rest = k .rest;
+        waiting = t (k .sources) (k .o) (b ++ k .rest) (regroup (k .sources) (k .o) (k .rest) (k .waiting));
+      }
 
-  module _ (r : Walked) (images′ out′ scratch′ : List ℕ) (t : Walks s gates made a images out scratch r images′ out′ scratch′) where
-    pub walks-both : (n : ℕ) → r ≡ Reached n → (r″ : Walked) (images″ out″ scratch″ : List ℕ) → Walks s gates n b images′ out′ scratch′ r″ images″ out″ scratch″
-        → Walks s gates made (a ++ b) images out scratch r″ images″ out″ scratch″
-    walks-both n q r″ images″ out″ scratch″ u sources o rest w =
-        u sources o rest (subst (λ (x : Walked). Waits s sources gates o (b ++ rest) x images′ out′ scratch′) q (t sources o (b ++ rest) (regroup sources o rest w)))
+-- outputs unless trimmed, next states, roots
+pub no-outputs : {trim : Bool} {words : ℕ} (gates : List ℕ) → trim ≡ true → words ≡ 0 → everyFrom 3 0 (take words gates) ≡ cond trim [] (outputsOf gates)
+no-outputs gates t e = rw (t, e) refl
 
-    pub walks-first : (why : Refusal) → r ≡ Stopped why → Walks s gates made (a ++ b) images out scratch (Stopped why) images′ out′ scratch′
-    walks-first why q sources o rest w =
-        subst (λ (x : Walked). Waits s sources gates o (b ++ rest) x images′ out′ scratch′) q (t sources o (b ++ rest) (regroup sources o rest w))
+pub all-outputs : {s : Shape} {gates : List ℕ} {made : ℕ} {cs images out scratch : List ℕ} → CanWalk s gates made cs images out scratch → {trim : Bool} {words : ℕ}
+    → trim ≡ false → words ≡ length gates → everyFrom 3 0 (take words gates) ≡ cond trim [] (outputsOf gates)
+all-outputs {gates = gates} k t e = rw (t, e, take-length gates) (every-third gates (omega (arith, k .waiting .ground .long)))
 
--- the outputs of the gates as a list of literals
-output-at : (gs : List Gate) (k : ℕ) → k < length gs → getD (map (λ g. g .output) gs) k 0 ≡ getD gs k noGate .output
-output-at [] k h = absurd (omega arith)
-output-at (g ∷ gs) zero h = refl
-output-at (g ∷ gs) (suc k) h = output-at gs k (omega arith)
+module _ {s : Shape} {gates images out scratch : List ℕ} (trim : Bool) (nexts roots : List ℕ) (k : CanWalk s gates 0 (turns trim gates nexts roots) images out scratch)
+    (words : ℕ) (e : everyFrom 3 0 (take words gates) ≡ cond trim [] (outputsOf gates)) where
+  pub outputs-can : CanGoOn s gates (everyFrom 3 0 (take words gates)) (Reached 0) images out scratch
+  outputs-can = rw e (first-can s gates (cond trim [] (outputsOf gates)) (nexts ++ roots) (Reached 0) images out scratch k)
 
-module _ {s : Shape} {gates : List ℕ} {made : ℕ} {images out scratch : List ℕ} (k : CanWalk s gates made (outputsOf gates) images out scratch) where
-  pub outputs-count : length (outputsOf gates) ≡ s .gates
-  outputs-count = length-map (gatesOf gates) (λ g. g .output) ∙ gate-count (k .waiting .ground)
+  module _ (r₁ : Walked) (images₁ out₁ scratch₁ : List ℕ) (t₁ : GoesOn s gates (everyFrom 3 0 (take words gates)) (Reached 0) images out scratch r₁ images₁ out₁ scratch₁) where
+    outputs-walked : GoesOn s gates (cond trim [] (outputsOf gates)) (Reached 0) images out scratch r₁ images₁ out₁ scratch₁
+    outputs-walked = subst (λ (cs : List ℕ). GoesOn s gates cs (Reached 0) images out scratch r₁ images₁ out₁ scratch₁) e t₁
 
-  pub output-reads : (j : ℕ) → j < s .gates → 3 * j + 2 < length gates
-  output-reads j h = omega (arith, k .waiting .ground .long)
+    rest-can : CanGoOn s gates (nexts ++ roots) r₁ images₁ out₁ scratch₁
+    rest-can = second-can s gates (cond trim [] (outputsOf gates)) (nexts ++ roots) (Reached 0) images out scratch r₁ images₁ out₁ scratch₁ outputs-walked k
 
-  pub output-is : (j : ℕ) (l : Lit) → j < s .gates → l ≡ literal (gateAt gates j .output) → l .0 ≡ getD (outputsOf gates) j 0
-  output-is j l h e =
-      ap (λ (x : Lit). x .0) e
-      ∙ sym (output-at (gatesOf gates) j (omega (arith, gate-count (k .waiting .ground)))
-      ∙ ap (λ (g : Gate). g .output) (gates-at gates j (omega (arith, k .waiting .ground .long))))
+    pub nexts-can : CanGoOn s gates (everyFrom 1 0 nexts) r₁ images₁ out₁ scratch₁
+    nexts-can = rw (every-one nexts) (first-can s gates nexts roots r₁ images₁ out₁ scratch₁ rest-can)
 
--- the outputs are walked unless trimmed
-module _ {s : Shape} {gates : List ℕ} {made : ℕ} (cs : List ℕ) (images out scratch : List ℕ) (trim : Bool) where
-  pub trimmed : trim ≡ true → Walks s gates made (cond trim [] cs) images out scratch (Reached made) images out scratch
-  trimmed e sources o rest w = subst (λ (b : Bool). Waiting s sources gates o made (cond b [] cs ++ rest) images out scratch) e w
+    module _ (r₂ : Walked) (images₂ out₂ scratch₂ : List ℕ) (t₂ : GoesOn s gates (everyFrom 1 0 nexts) r₁ images₁ out₁ scratch₁ r₂ images₂ out₂ scratch₂) where
+      nexts-walked : GoesOn s gates nexts r₁ images₁ out₁ scratch₁ r₂ images₂ out₂ scratch₂
+      nexts-walked = subst (λ (cs : List ℕ). GoesOn s gates cs r₁ images₁ out₁ scratch₁ r₂ images₂ out₂ scratch₂) (every-one nexts) t₂
 
-  module _ (e : trim ≡ false) where
-    pub untrimmed-can : CanWalk s gates made (cond trim [] cs) images out scratch → CanWalk s gates made cs images out scratch
-    untrimmed-can k = subst (λ (b : Bool). CanWalk s gates made (cond b [] cs) images out scratch) e k
+      pub roots-can : CanGoOn s gates (everyFrom 1 0 roots) r₂ images₂ out₂ scratch₂
+      roots-can = rw (every-one roots) (second-can s gates nexts roots r₁ images₁ out₁ scratch₁ r₂ images₂ out₂ scratch₂ nexts-walked rest-can)
 
-    pub untrimmed : (r : Walked) (images′ out′ scratch′ : List ℕ) → Walks s gates made cs images out scratch r images′ out′ scratch′
-        → Walks s gates made (cond trim [] cs) images out scratch r images′ out′ scratch′
-    untrimmed r images′ out′ scratch′ t sources o rest w =
-        t sources o rest (subst (λ (b : Bool). Waiting s sources gates o made (cond b [] cs ++ rest) images out scratch) e w)
+      pub all-walked : (r₃ : Walked) (images₃ out₃ scratch₃ : List ℕ) → GoesOn s gates (everyFrom 1 0 roots) r₂ images₂ out₂ scratch₂ r₃ images₃ out₃ scratch₃
+          → Walks s gates 0 (turns trim gates nexts roots) images out scratch r₃ images₃ out₃ scratch₃
+      all-walked r₃ images₃ out₃ scratch₃ t₃ sources o rest w =
+          subst (λ (cs : List ℕ). GoesOn s gates cs r₂ images₂ out₂ scratch₂ r₃ images₃ out₃ scratch₃) (every-one roots) t₃ sources o rest
+          (nexts-walked sources o (roots ++ rest)
+          (regroup s gates nexts roots r₁ images₁ out₁ scratch₁ sources o rest
+          (outputs-walked sources o ((nexts ++ roots) ++ rest)
+          (regroup s gates (cond trim [] (outputsOf gates)) (nexts ++ roots) (Reached 0) images out scratch sources o rest w))))

@@ -1,8 +1,8 @@
 -- Literals walked in turn. Assumes nothing.
-use Prim.Native.Nat.{ℕ, _<_}
+use Prim.Native.Nat.{ℕ, zero, suc, _-_, _<_}
 use mathlib.Core.Path.{_≡_}
 use mathlib.Core.Bool.{Bool, cond}
-use mathlib.Core.List.{List, [], _++_, map}
+use mathlib.Core.List.{List, [], _∷_, _++_, map}
 use lib.ListN.{length, getD}
 use Rattle.lit.specs.Code.{var}
 use Rattle.circuit.specs.Walk.{Work, Out, stopped, walkAll}
@@ -30,19 +30,33 @@ Waits s sources gates o cs (Stopped why) images out scratch = Over s o (stopped 
 abbrev pub AllInside : Shape → List ℕ → Type 0
 AllInside s cs = (i : ℕ) → i < length cs → var (getD cs i 0) < s .vars
 
--- literals that can be walked from here
-pub record CanWalk (s : Shape) (gates : List ℕ) (made : ℕ) (cs : List ℕ) (images out scratch : List ℕ) : Type 0 where
+-- literals that can be walked after what was walked so far
+pub record CanGoOn (s : Shape) (gates cs : List ℕ) (from : Walked) (images out scratch : List ℕ) : Type 0 where
   pub inside : AllInside s cs
   pub sources : List ℕ
   pub o : Out
   pub rest : List ℕ
-  pub waiting : Waiting s sources gates o made (cs ++ rest) images out scratch
+  pub waiting : Waits s sources gates o (cs ++ rest) from images out scratch
 
--- the literals have been walked, whatever comes after them
-abbrev pub Walks : Shape → List ℕ → ℕ → List ℕ → List ℕ → List ℕ → List ℕ → Walked → List ℕ → List ℕ → List ℕ → Type 0
-Walks s gates made cs images out scratch r images′ out′ scratch′ =
-    (sources : List ℕ) (o : Out) (rest : List ℕ) → Waiting s sources gates o made (cs ++ rest) images out scratch
+-- the literals have been walked after what was walked so far, whatever comes after them
+abbrev pub GoesOn : Shape → List ℕ → List ℕ → Walked → List ℕ → List ℕ → List ℕ → Walked → List ℕ → List ℕ → List ℕ → Type 0
+GoesOn s gates cs from images out scratch r images′ out′ scratch′ =
+    (sources : List ℕ) (o : Out) (rest : List ℕ) → Waits s sources gates o (cs ++ rest) from images out scratch
     → Waits s sources gates o rest r images′ out′ scratch′
+
+-- literals that can be walked where so many gates have been made
+abbrev pub CanWalk : Shape → List ℕ → ℕ → List ℕ → List ℕ → List ℕ → List ℕ → Type 0
+CanWalk s gates made cs images out scratch = CanGoOn s gates cs (Reached made) images out scratch
+
+-- the literals have been walked from there
+abbrev pub Walks : Shape → List ℕ → ℕ → List ℕ → List ℕ → List ℕ → List ℕ → Walked → List ℕ → List ℕ → List ℕ → Type 0
+Walks s gates made cs images out scratch r images′ out′ scratch′ = GoesOn s gates cs (Reached made) images out scratch r images′ out′ scratch′
+
+-- every step-th literal of a list, after k that are passed over
+abbrev pub everyFrom : ℕ → ℕ → List ℕ → List ℕ
+everyFrom step k [] = []
+everyFrom step zero (c ∷ cs) = c ∷ everyFrom step (step - 1) cs
+everyFrom step (suc k) (c ∷ cs) = everyFrom step k cs
 
 -- the outputs of the gates
 abbrev pub outputsOf : List ℕ → List ℕ

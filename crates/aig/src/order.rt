@@ -1,8 +1,6 @@
 // The walks in turn: gate outputs unless trimmed, next states, roots.
-ghost use mathlib.Core.Bool.{cond};
-ghost use mathlib.Core.List.{[], _∷_, _++_};
-ghost use Rattle.aig.specs.Walks.{CanWalk, Walks, outputsOf, turns};
-use crate::flat;
+ghost use Prim.Native.Nat.{_<_, _≤_};
+ghost use Rattle.aig.specs.Walks.{CanGoOn, GoesOn, CanWalk, Walks, everyFrom, turns};
 use crate::shape::Shape;
 use crate::walk;
 use crate::walk::State;
@@ -10,140 +8,41 @@ use crate::walk::Walk;
 use ending::Walked;
 use lit::Lit;
 
-// One literal.
-fn one(
-    lit: Lit,
-    made: usize,
-    shape: Shape,
-    gates: &[u32],
-    map: &mut [u32],
-    out: &mut [u32],
-    scratch: &mut [u32],
-) -> Walked
-    requires { ⌜ CanWalk shape (now gates) made (lit .0 ∷ []) (now map) (now out) (now scratch) ⌝ }
-    ensures { λ r. ⌜ Walks shape (now (gates .entry)) made (lit .0 ∷ []) (now (map .entry)) (now (out .entry)) (now (scratch .entry)) r (now (map .exit)) (now (out .exit)) (now (scratch .exit)) ⌝ }
-{
-    walk::run(
-        State::Transfer(Walk::start(made), lit),
-        shape,
-        gates,
-        map,
-        out,
-        scratch,
-    )
-}
-
-// The literals of a list.
-fn list(
+// The literals of a list, every step-th from the first, until a walk is refused.
+fn each(
     lits: &[u32],
-    made: usize,
+    step: usize,
+    from: Walked,
     shape: Shape,
     gates: &[u32],
     map: &mut [u32],
     out: &mut [u32],
     scratch: &mut [u32],
 ) -> Walked
-    requires { ⌜ CanWalk shape (now gates) made (now lits) (now map) (now out) (now scratch) ⌝ }
-    ensures { λ r. ⌜ Walks shape (now (gates .entry)) made (now (lits .entry)) (now (map .entry)) (now (out .entry)) (now (scratch .entry)) r (now (map .exit)) (now (out .exit)) (now (scratch .exit)) ⌝ }
+    requires { ⌜ (0 < step) × (step ≤ 3) × CanGoOn shape (now gates) (everyFrom step 0 (now lits)) from (now map) (now out) (now scratch) ⌝ }
+    ensures { λ r. ⌜ GoesOn shape (now (gates .entry)) (everyFrom step 0 (now (lits .entry))) from (now (map .entry)) (now (out .entry)) (now (scratch .entry)) r (now (map .exit)) (now (out .exit)) (now (scratch .exit)) ⌝ }
 {
+    let mut end = from;
     let mut i = 0;
-    let mut made = made;
     while i < lits.len() {
-        let walked = one(
-            Lit::from_code(lits[i]),
-            made,
-            shape,
-            gates,
-            map,
-            out,
-            scratch,
-        );
-        match walked {
-            Walked::Reached(n) => {
-                made = n;
+        match end {
+            Walked::Reached(made) => {
+                end = walk::run(
+                    State::Transfer(Walk::start(made), Lit::from_code(lits[i])),
+                    shape,
+                    gates,
+                    map,
+                    out,
+                    scratch,
+                );
             }
             Walked::Stopped(why) => {
                 return Walked::Stopped(why);
             }
         }
-        i += 1;
+        i += step;
     }
-    Walked::Reached(made)
-}
-
-// The outputs of all gates.
-fn outputs(
-    shape: Shape,
-    gates: &[u32],
-    map: &mut [u32],
-    out: &mut [u32],
-    scratch: &mut [u32],
-) -> Walked
-    requires { ⌜ CanWalk shape (now gates) 0 (outputsOf (now gates)) (now map) (now out) (now scratch) ⌝ }
-    ensures { λ r. ⌜ Walks shape (now (gates .entry)) 0 (outputsOf (now (gates .entry))) (now (map .entry)) (now (out .entry)) (now (scratch .entry)) r (now (map .exit)) (now (out .exit)) (now (scratch .exit)) ⌝ }
-{
-    let mut k = 0;
-    let mut made = 0;
-    while k < shape.gates {
-        let walked = one(
-            flat::output_of(gates, k),
-            made,
-            shape,
-            gates,
-            map,
-            out,
-            scratch,
-        );
-        match walked {
-            Walked::Reached(n) => {
-                made = n;
-            }
-            Walked::Stopped(why) => {
-                return Walked::Stopped(why);
-            }
-        }
-        k += 1;
-    }
-    Walked::Reached(made)
-}
-
-// The outputs of all gates, unless trimmed.
-fn outputs_if(
-    trim: bool,
-    shape: Shape,
-    gates: &[u32],
-    map: &mut [u32],
-    out: &mut [u32],
-    scratch: &mut [u32],
-) -> Walked
-    requires { ⌜ CanWalk shape (now gates) 0 (cond trim [] (outputsOf (now gates))) (now map) (now out) (now scratch) ⌝ }
-    ensures { λ r. ⌜ Walks shape (now (gates .entry)) 0 (cond trim [] (outputsOf (now (gates .entry)))) (now (map .entry)) (now (out .entry)) (now (scratch .entry)) r (now (map .exit)) (now (out .exit)) (now (scratch .exit)) ⌝ }
-{
-    if trim {
-        return Walked::Reached(0);
-    }
-    outputs(shape, gates, map, out, scratch)
-}
-
-// Next states, then roots.
-fn nexts_then_roots(
-    nexts: &[u32],
-    roots: &[u32],
-    made: usize,
-    shape: Shape,
-    gates: &[u32],
-    map: &mut [u32],
-    out: &mut [u32],
-    scratch: &mut [u32],
-) -> Walked
-    requires { ⌜ CanWalk shape (now gates) made (now nexts ++ now roots) (now map) (now out) (now scratch) ⌝ }
-    ensures { λ r. ⌜ Walks shape (now (gates .entry)) made (now (nexts .entry) ++ now (roots .entry)) (now (map .entry)) (now (out .entry)) (now (scratch .entry)) r (now (map .exit)) (now (out .exit)) (now (scratch .exit)) ⌝ }
-{
-    let walked = list(nexts, made, shape, gates, map, out, scratch);
-    match walked {
-        Walked::Reached(n) => list(roots, n, shape, gates, map, out, scratch),
-        Walked::Stopped(why) => Walked::Stopped(why),
-    }
+    end
 }
 
 // All that is walked, in order.
@@ -160,9 +59,18 @@ pub fn walked(
     requires { ⌜ CanWalk shape (now gates) 0 (turns trim (now gates) (now nexts) (now roots)) (now map) (now out) (now scratch) ⌝ }
     ensures { λ r. ⌜ Walks shape (now (gates .entry)) 0 (turns trim (now (gates .entry)) (now (nexts .entry)) (now (roots .entry))) (now (map .entry)) (now (out .entry)) (now (scratch .entry)) r (now (map .exit)) (now (out .exit)) (now (scratch .exit)) ⌝ }
 {
-    let walked = outputs_if(trim, shape, gates, map, out, scratch);
-    match walked {
-        Walked::Reached(n) => nexts_then_roots(nexts, roots, n, shape, gates, map, out, scratch),
-        Walked::Stopped(why) => Walked::Stopped(why),
-    }
+    // three words a gate, its output first
+    let words = if trim { 0 } else { gates.len() };
+    let end = each(
+        &gates[..words],
+        3,
+        Walked::Reached(0),
+        shape,
+        gates,
+        map,
+        out,
+        scratch,
+    );
+    let end = each(nexts, 1, end, shape, gates, map, out, scratch);
+    each(roots, 1, end, shape, gates, map, out, scratch)
 }

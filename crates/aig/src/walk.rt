@@ -3,13 +3,11 @@
 ghost use mathlib.Core.Path.{_≡_};
 ghost use Prim.Native.Nat.{ℕ, _+_, _-_, _*_, _^_, _<_};
 ghost use mathlib.Core.List.{List};
-ghost use lib.ListN.{length};
 ghost use Rattle.circuit.specs.Walk as circuit-walk;
-ghost use Rattle.aig.specs.Layout.{Room};
 ghost use Rattle.fold.specs.Fold.{alreadyOf};
 ghost use Rattle.aig.specs.Already.{madeIf, alreadyIn};
 ghost use Rattle.aig.specs.Store.{MadeIn};
-ghost use Rattle.aig.specs.Settle.{numbers, left, appended, settled, CanSettle};
+ghost use Rattle.aig.specs.Settle.{numbers, left, settled, CanSettle};
 ghost use Rattle.aig.specs.Turns.{Walking, Turns, Runs};
 use crate::chains;
 use crate::flat;
@@ -186,27 +184,14 @@ impl Walk {
                 map::insert(map, output, t);
                 State::Return(self)
             }
-            Already::New => self.append(shape, output, pair, map, out, scratch),
+            // the one place where a gate is made
+            Already::New => {
+                chains::link_if(shape, self.made, pair, scratch);
+                store::append(out, self.made, pair);
+                map::insert(map, output, chains::code_at(shape, self.made));
+                State::Return(self.with_gate())
+            }
         }
-    }
-
-    // The one place where a gate is made.
-    fn append(
-        self,
-        shape: Shape,
-        output: Lit,
-        pair: Pair,
-        map: &mut [u32],
-        out: &mut [u32],
-        scratch: &mut [u32],
-    ) -> State
-        requires { ⌜ Room shape (now scratch) × (length (now out) ≡ 2 * shape .gates) × (self .made < shape .gates) × (pair .larger .0 < 2 * shape .vars) ⌝ }
-        ensures { λ r. ⌜ left r (now (map .exit)) (now (out .exit)) (now (scratch .exit)) ≡ appended shape self output pair (now (map .entry)) (now (out .entry)) (now (scratch .entry)) ⌝ }
-    {
-        chains::link_if(shape, self.made, pair, scratch);
-        store::append(out, self.made, pair);
-        map::insert(map, output, chains::code_at(shape, self.made));
-        State::Return(self.with_gate())
     }
 
     // A literal has its image: the entry on top says whose input it was. (`return` is a keyword.)

@@ -1,69 +1,45 @@
--- `order::walked`: outputs, then next states and roots, are walked as one list. Assumes nothing.
+-- `order::walked`: outputs unless trimmed, next states and roots are walked as one list. Assumes nothing.
 use Rattle.aig.proofs.order.walked.Statement.{statement}
 use Rattle.aig.proofs.order.walked.Tie as tie
-use mathlib.Core.Path.{_∙_}
-use Rattle.aig.proofs.InTurn.{first-can, second-can, walks-both, walks-first}
-use mathlib.Core.Bool.{cond}
-use mathlib.Core.List.{[], _++_}
-use Rattle.aig.specs.Walks.{outputsOf}
+use native.Mathlib.Omega.{arith}
+use mathlib.Core.Path.{sym, _∙_}
+use mathlib.Core.Logic.{⊎-elim}
+use lib.Seq.{length-take-le}
+use Rattle.aig.proofs.InTurn.{no-outputs, all-outputs, outputs-can, nexts-can, roots-can, all-walked}
 
-outputs-if-requires : tie.Need-outputs-if-requires
-outputs-if-requires c κs =
-    let a = c .before .before .before .before .before .before .before .before .before .args in
-    first-can (cond (a .trim) [] (outputsOf (a .gates .now))) (a .nexts .now ++ a .roots .now) (c .before .before .before .before .before .before .before .before .before .pre)
+slice-aggregate-each : tie.Need-slice-aggregate-each
+slice-aggregate-each c = sym (length-take-le _ _ (⊎-elim (λ w. omega (arith, w .1)) (λ w. omega (arith, w .1)) (c .before .if1 .came)))
 
-enum-known-walked : tie.Need-enum-known-walked
-enum-known-walked c = c .match .keys1
+each-requires : tie.Need-each-requires
+each-requires c κs = (omega arith, omega arith, outputs-can (c .before .before .before .before .before .before .before .before .before .before .before .args .trim) (c .before .before .before .before .before .before .before .before .before .before .before .args .nexts .now) (c .before .before .before .before .before .before .before .before .before .before .before .args .roots .now) (c .before .before .before .before .before .before .before .before .before .before .before .pre) (c .before .before .before .before .if1 .words) (⊎-elim (λ w. no-outputs (c .before .before .before .before .before .before .before .before .before .before .before .args .gates .now) (w .0 .taken) (w .1)) (λ w. all-outputs (c .before .before .before .before .before .before .before .before .before .before .before .pre) (w .0 .left) (w .1)) (c .before .before .before .before .if1 .came)))
 
-nexts-then-roots-requires : tie.Need-nexts-then-roots-requires
-nexts-then-roots-requires c κs =
-    let a = c .before .before .before .before .before .before .before .before .before .before .before .before .before .before .before .before .before .before .before .before .before .before .args in
-    second-can (cond (a .trim) [] (outputsOf (a .gates .now))) (a .nexts .now ++ a .roots .now) (c .before .before .before .before .before .before .before .before .before .before .before .before .before .before .before .before .before .before .before .before .before .before .pre) (c .before .before .before .before .before .before .before .before .before .before .before .before .outputs-if .result) _ _ _ (c .before .before .before .before .before .before .before .before .before .before .before .before .outputs-if .ensures) _ (c .before .before .before .before .walked .given .1)
+each-requires-2 : tie.Need-each-requires-2
+each-requires-2 c κs = (omega arith, omega arith, nexts-can (c .before .before .before .before .before .before .before .before .before .before .before .before .before .before .before .before .before .before .before .before .before .args .trim) (c .before .before .before .before .before .before .before .before .before .before .before .before .before .before .before .before .before .before .before .before .before .args .nexts .now) (c .before .before .before .before .before .before .before .before .before .before .before .before .before .before .before .before .before .before .before .before .before .args .roots .now) (c .before .before .before .before .before .before .before .before .before .before .before .before .before .before .before .before .before .before .before .before .before .pre) (c .before .before .before .before .before .before .before .before .before .before .before .before .before .before .if1 .words) (⊎-elim (λ w. no-outputs (c .before .before .before .before .before .before .before .before .before .before .before .before .before .before .before .before .before .before .before .before .before .args .gates .now) (w .0 .taken) (w .1)) (λ w. all-outputs (c .before .before .before .before .before .before .before .before .before .before .before .before .before .before .before .before .before .before .before .before .before .pre) (w .0 .left) (w .1)) (c .before .before .before .before .before .before .before .before .before .before .before .before .before .before .if1 .came)) (c .before .before .before .before .before .before .before .before .before .each .result) _ _ _ (c .before .before .before .before .before .before .before .before .before .each .ensures))
 
-enum-known-walked-2 : tie.Need-enum-known-walked-2
-enum-known-walked-2 c = c .match .keys2
+each-requires-3 : tie.Need-each-requires-3
+each-requires-3 c κs = (omega arith, omega arith, roots-can (c .before .before .before .before .before .before .before .before .before .before .before .before .before .before .before .before .before .before .before .before .before .before .before .before .before .before .before .before .before .before .before .args .trim) (c .before .before .before .before .before .before .before .before .before .before .before .before .before .before .before .before .before .before .before .before .before .before .before .before .before .before .before .before .before .before .before .args .nexts .now) (c .before .before .before .before .before .before .before .before .before .before .before .before .before .before .before .before .before .before .before .before .before .before .before .before .before .before .before .before .before .before .before .args .roots .now) (c .before .before .before .before .before .before .before .before .before .before .before .before .before .before .before .before .before .before .before .before .before .before .before .before .before .before .before .before .before .before .before .pre) (c .before .before .before .before .before .before .before .before .before .before .before .before .before .before .before .before .before .before .before .before .before .before .before .before .if1 .words) (⊎-elim (λ w. no-outputs (c .before .before .before .before .before .before .before .before .before .before .before .before .before .before .before .before .before .before .before .before .before .before .before .before .before .before .before .before .before .before .before .args .gates .now) (w .0 .taken) (w .1)) (λ w. all-outputs (c .before .before .before .before .before .before .before .before .before .before .before .before .before .before .before .before .before .before .before .before .before .before .before .before .before .before .before .before .before .before .before .pre) (w .0 .left) (w .1)) (c .before .before .before .before .before .before .before .before .before .before .before .before .before .before .before .before .before .before .before .before .before .before .before .before .if1 .came)) (c .before .before .before .before .before .before .before .before .before .before .before .before .before .before .before .before .before .before .before .each .result) _ _ _ (c .before .before .before .before .before .before .before .before .before .before .before .before .before .before .before .before .before .before .before .each .ensures) (c .before .before .before .before .before .before .before .before .before .each2 .result) _ _ _ (c .before .before .before .before .before .before .before .before .before .each2 .ensures))
 
 same-length : tie.Need-same-length
-same-length c = c .before .before .before .before .before .before .nexts-then-roots .kept .1 .1 .1 .1 .1 .0 ∙ c .before .before .before .before .before .before .before .before .before .before .before .before .before .before .before .before .before .before .before .outputs-if .kept .1 .1 .1 .0
+same-length c = c .before .before .before .before .before .before .each3 .kept .1 .1 .1 .1 .1 .0 ∙ c .before .before .before .before .before .before .before .before .before .before .before .before .before .before .before .before .each2 .kept .1 .1 .1 .1 .1 .0 ∙ c .before .before .before .before .before .before .before .before .before .before .before .before .before .before .before .before .before .before .before .before .before .before .before .before .before .before .each .kept .1 .1 .1 .1 .1 .0
 
 same-length-2 : tie.Need-same-length-2
-same-length-2 c = c .before .before .before .before .before .before .nexts-then-roots .kept .1 .1 .1 .1 .1 .1 .0 ∙ c .before .before .before .before .before .before .before .before .before .before .before .before .before .before .before .before .before .before .before .outputs-if .kept .1 .1 .1 .1 .0
+same-length-2 c = c .before .before .before .before .before .before .each3 .kept .1 .1 .1 .1 .1 .1 .0 ∙ c .before .before .before .before .before .before .before .before .before .before .before .before .before .before .before .before .each2 .kept .1 .1 .1 .1 .1 .1 .0 ∙ c .before .before .before .before .before .before .before .before .before .before .before .before .before .before .before .before .before .before .before .before .before .before .before .before .before .before .each .kept .1 .1 .1 .1 .1 .1 .0
 
 same-length-3 : tie.Need-same-length-3
-same-length-3 c = c .before .before .before .before .before .before .nexts-then-roots .kept .1 .1 .1 .1 .1 .1 .1 .0 ∙ c .before .before .before .before .before .before .before .before .before .before .before .before .before .before .before .before .before .before .before .outputs-if .kept .1 .1 .1 .1 .1 .0
+same-length-3 c = c .before .before .before .before .before .before .each3 .kept .1 .1 .1 .1 .1 .1 .1 .0 ∙ c .before .before .before .before .before .before .before .before .before .before .before .before .before .before .before .before .each2 .kept .1 .1 .1 .1 .1 .1 .1 .0 ∙ c .before .before .before .before .before .before .before .before .before .before .before .before .before .before .before .before .before .before .before .before .before .before .before .before .before .before .each .kept .1 .1 .1 .1 .1 .1 .1 .0
 
 returns : tie.Need-returns
-returns c =
-    let a = c .before .before .before .before .before .before .before .before .before .before .before .before .before .before .before .before .before .before .before .before .before .before .before .before .before .before .before .before .before .args in
-    walks-both (cond (a .trim) [] (outputsOf (a .gates .now))) (a .nexts .now ++ a .roots .now) (c .before .before .before .before .before .before .before .before .before .before .before .before .before .before .before .before .before .before .before .outputs-if .result) _ _ _ (c .before .before .before .before .before .before .before .before .before .before .before .before .before .before .before .before .before .before .before .outputs-if .ensures) _ (c .before .before .before .before .before .before .before .before .before .before .before .walked .given .1) (c .before .before .before .before .before .before .nexts-then-roots .result) _ _ _ (c .before .before .before .before .before .before .nexts-then-roots .ensures)
-
-same-length-4 : tie.Need-same-length-4
-same-length-4 c = c .before .before .before .before .before .before .before .before .before .outputs-if .kept .1 .1 .1 .0
-
-same-length-5 : tie.Need-same-length-5
-same-length-5 c = c .before .before .before .before .before .before .before .before .before .outputs-if .kept .1 .1 .1 .1 .0
-
-same-length-6 : tie.Need-same-length-6
-same-length-6 c = c .before .before .before .before .before .before .before .before .before .outputs-if .kept .1 .1 .1 .1 .1 .0
-
-returns-2 : tie.Need-returns-2
-returns-2 c =
-    let a = c .before .before .before .before .before .before .before .before .before .before .before .before .before .before .before .before .before .before .before .args in
-    walks-first (cond (a .trim) [] (outputsOf (a .gates .now))) (a .nexts .now ++ a .roots .now) (c .before .before .before .before .before .before .before .before .before .outputs-if .result) _ _ _ (c .before .before .before .before .before .before .before .before .before .outputs-if .ensures) _ (c .before .walked2 .given .1)
+returns c = all-walked (c .before .before .before .before .before .before .before .before .before .before .before .before .before .before .before .before .before .before .before .before .before .before .before .before .before .before .before .before .before .before .before .before .before .before .before .before .before .before .args .trim) (c .before .before .before .before .before .before .before .before .before .before .before .before .before .before .before .before .before .before .before .before .before .before .before .before .before .before .before .before .before .before .before .before .before .before .before .before .before .before .args .nexts .now) (c .before .before .before .before .before .before .before .before .before .before .before .before .before .before .before .before .before .before .before .before .before .before .before .before .before .before .before .before .before .before .before .before .before .before .before .before .before .before .args .roots .now) (c .before .before .before .before .before .before .before .before .before .before .before .before .before .before .before .before .before .before .before .before .before .before .before .before .before .before .before .before .before .before .before .before .before .before .before .before .before .before .pre) (c .before .before .before .before .before .before .before .before .before .before .before .before .before .before .before .before .before .before .before .before .before .before .before .before .before .before .before .before .before .before .before .if1 .words) (⊎-elim (λ w. no-outputs (c .before .before .before .before .before .before .before .before .before .before .before .before .before .before .before .before .before .before .before .before .before .before .before .before .before .before .before .before .before .before .before .before .before .before .before .before .before .before .args .gates .now) (w .0 .taken) (w .1)) (λ w. all-outputs (c .before .before .before .before .before .before .before .before .before .before .before .before .before .before .before .before .before .before .before .before .before .before .before .before .before .before .before .before .before .before .before .before .before .before .before .before .before .before .pre) (w .0 .left) (w .1)) (c .before .before .before .before .before .before .before .before .before .before .before .before .before .before .before .before .before .before .before .before .before .before .before .before .before .before .before .before .before .before .before .if1 .came)) (c .before .before .before .before .before .before .before .before .before .before .before .before .before .before .before .before .before .before .before .before .before .before .before .before .before .before .each .result) _ _ _ (c .before .before .before .before .before .before .before .before .before .before .before .before .before .before .before .before .before .before .before .before .before .before .before .before .before .before .each .ensures) (c .before .before .before .before .before .before .before .before .before .before .before .before .before .before .before .before .each2 .result) _ _ _ (c .before .before .before .before .before .before .before .before .before .before .before .before .before .before .before .before .each2 .ensures) (c .before .before .before .before .before .before .each3 .result) _ _ _ (c .before .before .before .before .before .before .each3 .ensures)
 
 pub walked-spec : {M : Type 1} → statement M
 walked-spec =
     tie.close
     (tie.spec
-    outputs-if-requires
-    enum-known-walked
-    nexts-then-roots-requires
-    enum-known-walked-2
+    slice-aggregate-each
+    each-requires
+    each-requires-2
+    each-requires-3
     same-length
     same-length-2
     same-length-3
-    returns
-    same-length-4
-    same-length-5
-    same-length-6
-    returns-2)
+    returns)
