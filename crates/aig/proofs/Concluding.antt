@@ -5,7 +5,7 @@ use mathlib.Core.List.{List, [], _∷_, _++_}
 use mathlib.Core.Logic.{inl, inr}
 use native.Mathlib.Omega.{arith}
 use lib.ListN.{length, take, drop, replicate, length-append, length-replicate, take-append-drop}
-use lib.Seq.{length-take-le, getD-take}
+use lib.Seq.{getD-take}
 use Rattle.lit.specs.Code.{var, variable}
 use Rattle.circuit.specs.declared.Answer.{Answer}
 use Rattle.circuit.specs.declared.Answer.the-variants.{Renumbered, Refused}
@@ -68,9 +68,9 @@ module _ (l : Lent) (p : Passes l) where
         agrees = record { roots = agr .roots; latches = agr .latches; words = agr .words };
         bounds = O.bounds l p;
         four = p .four;
-        mapLong = length-take-le _ (l .map) (room .map);
-        outLong = length-take-le _ (l .gatesOut) (room .gates);
-        scratchLong = length-take-le _ (l .scratch) (room .scratch);
+        mapLong = room .map;
+        outLong = room .gates;
+        scratchLong = room .scratch;
       }
 
   -- the lists m, g and s that the walks leave

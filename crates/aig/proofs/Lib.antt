@@ -3,7 +3,6 @@ pub mod Defining
 pub mod Bounds
 pub mod Joining
 pub mod Passing
-pub mod Fronts
 pub mod Tabling
 pub mod Concluding
 pub mod Parts

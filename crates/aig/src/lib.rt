@@ -65,7 +65,7 @@ pub fn renumber(
     );
     match check {
         Check::Passed => {
-            let end = walks::walk_fronts(
+            let end = walks::walk_all(
                 circuit,
                 inputs,
                 states,

@@ -14,8 +14,8 @@ checked-requires c κs = tt
 enum-told : tie.Need-enum-told
 enum-told c = c .match .keys1
 
-walk-fronts-requires : tie.Need-walk-fronts-requires
-walk-fronts-requires c κs =
+walk-all-requires : tie.Need-walk-all-requires
+walk-all-requires c κs =
     let a = c .before .before .before .before .before .before .before .before .before .before .before .before .before .before .before .before .before .before .before .before .before .args in
     walk-in (lentOf (a .circuit) (now (a .inputs)) (now (a .states)) (now (a .nexts)) (now (a .gates)) (now (a .roots)) (now (a .map)) (now (a .next-images)) (now (a .root-images)) (now (a .gates-out)) (now (a .scratch))) (passed (lentOf (a .circuit) (now (a .inputs)) (now (a .states)) (now (a .nexts)) (now (a .gates)) (now (a .roots)) (now (a .map)) (now (a .next-images)) (now (a .root-images)) (now (a .gates-out)) (now (a .scratch))) (sym (c .before .before .before .before .before .checked .ensures) ∙ c .before .before .before .enum-told .given .1))
 
@@ -26,7 +26,7 @@ enum-known-check : tie.Need-enum-known-check
 enum-known-check c = c .match .keys2
 
 same-length : tie.Need-same-length
-same-length c = c .before .before .before .before .before .before .before .before .before .before .conclude .kept .1 .1 .1 .1 .1 .1 .1 .0 ∙ c .before .before .before .before .before .before .before .before .before .before .before .before .before .before .before .before .before .before .before .before .before .before .walk-fronts .kept .1 .1 .1 .1 .1 .1 .0
+same-length c = c .before .before .before .before .before .before .before .before .before .before .conclude .kept .1 .1 .1 .1 .1 .1 .1 .0 ∙ c .before .before .before .before .before .before .before .before .before .before .before .before .before .before .before .before .before .before .before .before .before .before .walk-all .kept .1 .1 .1 .1 .1 .1 .0
 
 same-length-2 : tie.Need-same-length-2
 same-length-2 c = c .before .before .before .before .before .before .before .before .before .before .conclude .kept .1 .1 .1 .1 .1 .1 .1 .1 .0
@@ -35,15 +35,15 @@ same-length-3 : tie.Need-same-length-3
 same-length-3 c = c .before .before .before .before .before .before .before .before .before .before .conclude .kept .1 .1 .1 .1 .1 .1 .1 .1 .1 .0
 
 same-length-4 : tie.Need-same-length-4
-same-length-4 c = c .before .before .before .before .before .before .before .before .before .before .conclude .kept .1 .1 .1 .1 .1 .1 .1 .1 .1 .1 .0 ∙ c .before .before .before .before .before .before .before .before .before .before .before .before .before .before .before .before .before .before .before .before .before .before .walk-fronts .kept .1 .1 .1 .1 .1 .1 .1 .0
+same-length-4 c = c .before .before .before .before .before .before .before .before .before .before .conclude .kept .1 .1 .1 .1 .1 .1 .1 .1 .1 .1 .0 ∙ c .before .before .before .before .before .before .before .before .before .before .before .before .before .before .before .before .before .before .before .before .before .before .walk-all .kept .1 .1 .1 .1 .1 .1 .1 .0
 
 same-length-5 : tie.Need-same-length-5
-same-length-5 c = c .before .before .before .before .before .before .before .before .before .before .conclude .kept .1 .1 .1 .1 .1 .1 .1 .1 .1 .1 .1 .0 ∙ c .before .before .before .before .before .before .before .before .before .before .before .before .before .before .before .before .before .before .before .before .before .before .walk-fronts .kept .1 .1 .1 .1 .1 .1 .1 .1 .0
+same-length-5 c = c .before .before .before .before .before .before .before .before .before .before .conclude .kept .1 .1 .1 .1 .1 .1 .1 .1 .1 .1 .1 .0 ∙ c .before .before .before .before .before .before .before .before .before .before .before .before .before .before .before .before .before .before .before .before .before .before .walk-all .kept .1 .1 .1 .1 .1 .1 .1 .1 .0
 
 returns : tie.Need-returns
 returns c =
     let a = c .before .before .before .before .before .before .before .before .before .before .before .before .before .before .before .before .before .before .before .before .before .before .before .before .before .before .before .before .before .before .before .before .before .before .before .before .before .before .before .before .before .before .before .before .args in
-    c .before .before .before .before .before .before .before .before .before .before .conclude .ensures ∙ ends (lentOf (a .circuit) (now (a .inputs)) (now (a .states)) (now (a .nexts)) (now (a .gates)) (now (a .roots)) (now (a .map)) (now (a .next-images)) (now (a .root-images)) (now (a .gates-out)) (now (a .scratch))) (passed (lentOf (a .circuit) (now (a .inputs)) (now (a .states)) (now (a .nexts)) (now (a .gates)) (now (a .roots)) (now (a .map)) (now (a .next-images)) (now (a .root-images)) (now (a .gates-out)) (now (a .scratch))) (sym (c .before .before .before .before .before .before .before .before .before .before .before .before .before .before .before .before .before .before .before .before .before .before .before .before .before .before .before .before .checked .ensures) ∙ c .before .before .before .before .before .before .before .before .before .before .before .before .before .before .before .before .before .before .before .before .before .before .before .before .before .before .enum-told .given .1)) _ _ _ _ (c .before .before .before .before .before .before .before .before .before .before .before .before .before .before .before .before .before .before .before .before .before .before .walk-fronts .ensures) (c .before .before .before .before .before .before .before .before .before .before .before .before .before .before .before .before .before .before .before .before .before .before .walk-fronts .kept .1 .1 .1 .1 .1 .1 .0) (c .before .before .before .before .before .before .before .before .before .before .before .before .before .before .before .before .before .before .before .before .before .before .walk-fronts .kept .1 .1 .1 .1 .1 .1 .1 .0) (c .before .before .before .before .before .before .before .before .before .before .before .before .before .before .before .before .before .before .before .before .before .before .walk-fronts .kept .1 .1 .1 .1 .1 .1 .1 .1 .0)
+    c .before .before .before .before .before .before .before .before .before .before .conclude .ensures ∙ ends (lentOf (a .circuit) (now (a .inputs)) (now (a .states)) (now (a .nexts)) (now (a .gates)) (now (a .roots)) (now (a .map)) (now (a .next-images)) (now (a .root-images)) (now (a .gates-out)) (now (a .scratch))) (passed (lentOf (a .circuit) (now (a .inputs)) (now (a .states)) (now (a .nexts)) (now (a .gates)) (now (a .roots)) (now (a .map)) (now (a .next-images)) (now (a .root-images)) (now (a .gates-out)) (now (a .scratch))) (sym (c .before .before .before .before .before .before .before .before .before .before .before .before .before .before .before .before .before .before .before .before .before .before .before .before .before .before .before .before .checked .ensures) ∙ c .before .before .before .before .before .before .before .before .before .before .before .before .before .before .before .before .before .before .before .before .before .before .before .before .before .before .enum-told .given .1)) _ _ _ _ (c .before .before .before .before .before .before .before .before .before .before .before .before .before .before .before .before .before .before .before .before .before .before .walk-all .ensures) (c .before .before .before .before .before .before .before .before .before .before .before .before .before .before .before .before .before .before .before .before .before .before .walk-all .kept .1 .1 .1 .1 .1 .1 .0) (c .before .before .before .before .before .before .before .before .before .before .before .before .before .before .before .before .before .before .before .before .before .before .walk-all .kept .1 .1 .1 .1 .1 .1 .1 .0) (c .before .before .before .before .before .before .before .before .before .before .before .before .before .before .before .before .before .before .before .before .before .before .walk-all .kept .1 .1 .1 .1 .1 .1 .1 .1 .0)
 
 same-length-6 : tie.Need-same-length-6
 same-length-6 c = refl
@@ -71,7 +71,7 @@ renumber-spec =
     (tie.spec
     checked-requires
     enum-told
-    walk-fronts-requires
+    walk-all-requires
     conclude-requires
     enum-known-check
     same-length
