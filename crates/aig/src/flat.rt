@@ -6,6 +6,9 @@ ghost use Rattle.lit.specs.Code.{literal};
 ghost use Rattle.circuit.proofs.Words.{gateAt};
 use lit::Lit;
 
+// The words of a gate; its output is the first.
+pub const WORDS: usize = 3;
+
 // The output of gate k.
 pub fn output_of(gates: &[u32], k: usize) -> Lit
     requires { ⌜ 3 * k + 2 < length (now gates) ⌝ }

@@ -1,6 +1,7 @@
 // The walks in turn: gate outputs unless trimmed, next states, roots.
 ghost use Prim.Native.Nat.{_<_, _≤_};
 ghost use Rattle.aig.specs.Walks.{CanGoOn, GoesOn, CanWalk, Walks, everyFrom, turns};
+use crate::flat;
 use crate::shape::Shape;
 use crate::walk;
 use crate::walk::State;
@@ -59,11 +60,10 @@ pub fn walked(
     requires { ⌜ CanWalk shape (now gates) 0 (turns trim (now gates) (now nexts) (now roots)) (now map) (now out) (now scratch) ⌝ }
     ensures { λ r. ⌜ Walks shape (now (gates .entry)) 0 (turns trim (now (gates .entry)) (now (nexts .entry)) (now (roots .entry))) (now (map .entry)) (now (out .entry)) (now (scratch .entry)) r (now (map .exit)) (now (out .exit)) (now (scratch .exit)) ⌝ }
 {
-    // three words a gate, its output first
     let words = if trim { 0 } else { gates.len() };
     let end = each(
         &gates[..words],
-        3,
+        flat::WORDS,
         Walked::Reached(0),
         shape,
         gates,

@@ -101,17 +101,10 @@ pub fn conclude(
     let top = circuit.top;
     let n = wide(top.index()) + 1;
     let g = gates.len() / 3;
+    let words = 3 * n + 3 * g;
     match end {
         Walked::Reached(made) => {
-            finish(
-                3 * n + 3 * g,
-                nexts,
-                roots,
-                map,
-                next_images,
-                root_images,
-                scratch,
-            );
+            finish(words, nexts, roots, map, next_images, root_images, scratch);
             renumbered(inputs.len() + states.len(), made)
         }
         Walked::Stopped(why) => {
@@ -120,7 +113,7 @@ pub fn conclude(
                 next_images: states.len(),
                 root_images: roots.len(),
                 gates_out: 2 * g,
-                scratch: 3 * n + 3 * g,
+                scratch: words,
             };
             clear(fronts, map, next_images, root_images, gates_out, scratch);
             Answer::Refused(why)

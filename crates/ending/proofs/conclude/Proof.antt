@@ -16,17 +16,20 @@ wide-requires c κs = tt
 add-n : tie.Need-add-n
 add-n c = record { fits = omega (arith, c .wide .ensures, c .before .index .ok) }
 
+mul-words : tie.Need-mul-words
+mul-words c = record { fits = omega (arith, c .wide .ensures, c .before .index .ok) }
+
+mul-words-2 : tie.Need-mul-words-2
+mul-words-2 c = record { fits = omega (arith, c .before .before .before .before .before .before .before .before .before .before .before .before .before .good .1 .1 .1 .1 .1 .0 .1) }
+
+add-words : tie.Need-add-words
+add-words c = record { fits = omega (arith, c .wide .ensures, c .before .index .ok, c .before .before .before .before .before .before .before .before .before .before .before .before .before .good .1 .1 .1 .1 .1 .0 .1) }
+
+mul-t38 : tie.Need-mul-t38
+mul-t38 c = record { fits = omega (arith, c .before .before .before .before .before .before .before .before .before .before .before .before .before .before .before .before .good .1 .1 .1 .1 .1 .0 .1) }
+
 enum-known-end : tie.Need-enum-known-end
 enum-known-end c = c .match .keys1
-
-mul-finish : tie.Need-mul-finish
-mul-finish c = record { fits = omega (arith, c .before .before .before .wide .ensures, c .before .before .before .before .index .ok) }
-
-mul-finish-2 : tie.Need-mul-finish-2
-mul-finish-2 c = record { fits = omega (arith, c .before .before .before .before .before .before .before .before .before .before .before .before .before .before .before .before .good .1 .1 .1 .1 .1 .0 .1) }
-
-add-finish : tie.Need-add-finish
-add-finish c = record { fits = omega (arith, c .before .before .before .wide .ensures, c .before .before .before .before .index .ok, c .before .before .before .before .before .before .before .before .before .before .before .before .before .before .before .before .good .1 .1 .1 .1 .1 .0 .1) }
 
 finish-requires : tie.Need-finish-requires
 finish-requires c κs = tt
@@ -39,18 +42,6 @@ renumbered-requires c κs = tt
 
 enum-known-end-2 : tie.Need-enum-known-end-2
 enum-known-end-2 c = c .match .keys2
-
-mul-t36 : tie.Need-mul-t36
-mul-t36 c = record { fits = omega (arith, c .before .before .before .before .before .before .before .before .before .before .before .before .before .before .before .before .good .1 .1 .1 .1 .1 .0 .1) }
-
-mul-t37 : tie.Need-mul-t37
-mul-t37 c = record { fits = omega (arith, c .before .before .before .wide .ensures, c .before .before .before .before .index .ok) }
-
-mul-t38 : tie.Need-mul-t38
-mul-t38 c = record { fits = omega (arith, c .before .before .before .before .before .before .before .before .before .before .before .before .before .before .before .before .good .1 .1 .1 .1 .1 .0 .1) }
-
-add-t39 : tie.Need-add-t39
-add-t39 c = record { fits = omega (arith, c .before .before .before .wide .ensures, c .before .before .before .before .index .ok, c .before .before .before .before .before .before .before .before .before .before .before .before .before .before .before .before .good .1 .1 .1 .1 .1 .0 .1) }
 
 clear-requires : tie.Need-clear-requires
 clear-requires c κs = tt
@@ -101,18 +92,15 @@ conclude-spec =
     index-requires
     wide-requires
     add-n
+    mul-words
+    mul-words-2
+    add-words
     enum-known-end
-    mul-finish
-    mul-finish-2
-    add-finish
     finish-requires
     add-renumbered
     renumbered-requires
     enum-known-end-2
-    mul-t36
-    mul-t37
     mul-t38
-    add-t39
     clear-requires
     same-length
     same-length-2
