@@ -17,7 +17,6 @@ use Rattle.circuit.specs.Circuit.{Circuit, renumber}
 use Rattle.circuit.specs.Ordered.{imagesIn, orderedOf}
 use Rattle.circuit.specs.Outcome.{Lent, Outcome, lentOf, circuitOf, mapWords, scratchWords, zeros, onto, pairWords, summaryOf, after, outcome}
 use Rattle.circuit.specs.Claims.{Within, Agrees, Roomy, Passes}
-use Rattle.circuit.proofs.Settled.{settled-le}
 use Rattle.circuit.proofs.Words.{pairs-length}
 use Rattle.circuit.proofs.Renumber.{Done, Answered}
 use Rattle.circuit.proofs.Outcome as O
@@ -29,7 +28,7 @@ use Rattle.ending.specs.Ending.{madeWith, ended}
 use Rattle.ending.proofs.Ended.{outcome-eq}
 use Rattle.aig.specs.Walked.{WalkEnds, WalkIn, EndsIn}
 use Rattle.aig.proofs.Bounds.{next-low, root-low}
-use Rattle.aig.proofs.Passing.{bareOf, concludes, answer, late}
+use Rattle.aig.proofs.Passing.{bareOf, concludes, answer, made-few, late}
 
 -- a list by its front and by what stood past it in another
 joins : (k : ℕ) (x y ws : List ℕ) → take k x ≡ ws → drop k x ≡ drop k y → length ws ≡ k → x ≡ onto ws y
@@ -100,7 +99,7 @@ module _ (l : Lent) (p : Passes l) where
     unfolding ended after orderedOf
     succeeds w e (er, ei, eo) =
         let d : Done K w = subst (Answered K) e (answer l p) in
-        let few : length (w .made) ≤ length (K .gates) = omega (arith, d .inv .few, settled-le (w .images) (K .gates)) in
+        let few : length (w .made) ≤ length (K .gates) = made-few l p w e in
         let rest : ℕ = 2 * (length (K .gates) - length (w .made)) in
         let made-is : length (w .made) % 2 ^ 32 ≡ length (w .made) = omega (arith, few, sizes .gates) in
         let top-is : (length (l .inputs) + length (l .states) + length (w .made)) % 2 ^ 32 ≡ length (l .inputs) + length (imagesIn (w .images) (l .nexts)) + length (w .made)
