@@ -79,7 +79,7 @@ module _ (l : Lent) where
         scratch = ltb-false (length (l .scratch)) (scratchWords C) (a .1);
       }
 
-  from-within : Within C → tooBig C ≡ false
+  pub from-within : Within C → tooBig C ≡ false
   unfolding tooBig
   from-within h =
       rw (
@@ -90,7 +90,7 @@ module _ (l : Lent) where
         le-ltb limit (length (C .roots)) (h .roots),
       )
 
-  from-agrees : Agrees l → misshapen l ≡ false
+  pub from-agrees : Agrees l → misshapen l ≡ false
   unfolding misshapen
   from-agrees h =
       rw (
@@ -99,7 +99,7 @@ module _ (l : Lent) where
         eq-eqb (length (l .gates) % 3) 0 (h .words),
       )
 
-  from-roomy : Roomy l C → tooShort l C ≡ false
+  pub from-roomy : Roomy l C → tooShort l C ≡ false
   unfolding tooShort
   from-roomy h =
       rw (

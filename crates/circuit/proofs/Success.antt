@@ -13,14 +13,14 @@ use lib.Seq.{take-at, take-append-le, getD-take}
 use Rattle.lit.specs.Code.{var, literal, flipped}
 use Rattle.lit.specs.declared.Lit.{Lit}
 use Rattle.circuit.specs.declared.Image.the-variants.{Absent}
-use Rattle.circuit.specs.Graph.{In, Gate, outVar, Means}
+use Rattle.circuit.specs.Graph.{In, Means}
 use Rattle.circuit.specs.Map.{noImage, imageIn, imageOf, codeOf}
-use Rattle.circuit.specs.Walk.{sourceCount, Pair, Work, reached, firstCode, nextCode, foldedIf, already}
+use Rattle.circuit.specs.Walk.{sourceCount, Pair, Work, reached, firstCode, nextCode, already}
 use Rattle.circuit.specs.Circuit.{Circuit, graph, net, walked, gateOutputs}
 use Rattle.circuit.specs.Ordered.{Ordered, orderedWith, imagesIn, orderedOf, sourcesOf, orderedGraph, noPair, InOrder}
-use Rattle.circuit.specs.Outcome.{Lent, Outcome, circuitOf, conclusion, onto, zeros, pairWords, pairsOf, summaryOf, written, outcome, held}
+use Rattle.circuit.specs.Outcome.{Lent, Outcome, circuitOf, conclusion, onto, zeros, pairWords, pairsOf, summaryOf, outcome, held}
 use Rattle.circuit.specs.declared.Summary.{Summary}
-use Rattle.circuit.specs.Claims.{Fits, Succeeds, HasImage, Named, SameValue, Makes, Ruled}
+use Rattle.circuit.specs.Claims.{Fits, Succeeds, HasImage, Named, SameValue}
 use Rattle.circuit.proofs.Tests.{AtMost, atMost, above, leTest}
 use Rattle.circuit.proofs.Map.{entry, codeIn, code-image, image-code, no-image, code-in, image-entry}
 use Rattle.circuit.proofs.Lists.{In-left, In-right, In-map, In-getD}
@@ -28,7 +28,7 @@ use Rattle.circuit.proofs.Meaning.{reads-means, means-one}
 use Rattle.circuit.proofs.Values.{val}
 use Rattle.circuit.proofs.Settle.{Already, isNew, alreadyIs}
 use Rattle.circuit.proofs.Settled.{settled-le}
-use Rattle.circuit.proofs.Invariant.{Inv, lit-reads, flipped-below, codes-fit, BothMapped, largerIn, smallerIn}
+use Rattle.circuit.proofs.Invariant.{Inv, lit-reads, flipped-below, codes-fit}
 use Rattle.circuit.proofs.Ordered.{ordered-once, ordered-means}
 use Rattle.circuit.proofs.Renumber.{Done, sized, counting, reach-mapped}
 use Rattle.circuit.proofs.Words.{pairs-length, pairs-back}
@@ -206,58 +206,23 @@ module _ (l : Lent) (w : Work) (e : conclusion l ≡ reached w) where
       go none (isNew f n) z q = n on i (omega (arith, length-take j (w .made))) (getD-take j (w .made) i noPair h ∙ q)
       go (some t) a z q = let y : _≡_ {A = ℕ} 0 1 = cc in omega arith
 
-  -- a gate with an image is what its inputs' images make
-  pub gate-ruled : (g : Gate) (t : Lit) → In g (C .gates) → HasImage l (g .output) t → Ruled l (net C) O g t
-  unfolding orderedOf
-  gate-ruled g t h k =
-      let n = mapped-back (g .output) t k in
-      let b : BothMapped (w .images) g = inv .closed g h (n .0) in
-      record {
-        first = literal (codeIn (w .images) (g .first));
-        second = literal (codeIn (w .images) (g .second));
-        firstImage = mapped (g .first) (b .0);
-        secondImage = mapped (g .second) (b .1);
-        makes = subst⁻¹ (λ (s : ℕ). Makes (net C) (w .made) (largerIn (w .images) g) (smallerIn (w .images) g) s) (n .1) (inv .ruled g h (n .0));
-      }
-
-  -- with hashing off and folding off, each gate with an image has a gate of its own
-  pub gate-kept : C .hash ≡ false → C .fold ≡ false → (g : Gate) (t : Lit) → In g (C .gates) → HasImage l (g .output) t
-      → ((j : ℕ) × (j < length (w .made)) × (t .0 ≡ firstCode (sourcesOf O) + 2 * j))
-      × ((g′ : Gate) → In g′ (C .gates) → HasImage l (g′ .output) t → g ≡ g′)
-  gate-kept no-hash no-fold g t h k = (its-gate (inv .ruled g h (n .0)), λ g′ h′ k′. alone g′ h′ (mapped-back (g′ .output) t k′))
-    where
-      n : (entry (w .images) (outVar g) ≢ noImage) × (t .0 ≡ codeIn (w .images) (g .output))
-      n = mapped-back (g .output) t k
-
-      unfolded : (hi lo : ℕ) → foldedIf (C .fold) hi lo ≡ none
-      unfolded hi lo = ap (λ (b : Bool). foldedIf b hi lo) no-fold
-
-      its-gate : Makes (net C) (w .made) (largerIn (w .images) g) (smallerIn (w .images) g) (codeIn (w .images) (g .output))
-          → (j : ℕ) × (j < length (w .made)) × (t .0 ≡ firstCode (sourcesOf O) + 2 * j)
-      its-gate (inl f) =
-          absurd (let y : _≡_ {A = Option ℕ} none (some (codeIn (w .images) (g .output))) = sym (unfolded (largerIn (w .images) g) (smallerIn (w .images) g)) ∙ f in
-          let z : _≡_ {A = ℕ} 0 1 = cc in omega arith)
-      its-gate (inr m) = (m .0, m .1, n .1 ∙ m .2 ∙ ap (λ (s : ℕ). firstCode s + 2 * m .0) (sym sources-same))
-
-      alone : (g′ : Gate) → In g′ (C .gates) → (entry (w .images) (outVar g′) ≢ noImage) × (t .0 ≡ codeIn (w .images) (g′ .output)) → g ≡ g′
-      alone g′ h′ n′ =
-          inv .kept no-hash g g′ h h′ (n .0) (n′ .0) (unfolded (largerIn (w .images) g) (smallerIn (w .images) g))
-          (unfolded (largerIn (w .images) g′) (smallerIn (w .images) g′)) (sym (n .1) ∙ n′ .1)
-
 -- the walk behind a success, and what the lists hold
 pub record Success (l : Lent) (s : Summary) : Type 0 where
   pub work : Work
   pub ends : conclusion l ≡ reached work
   pub sums : s ≡ summaryOf (orderedOf (circuitOf l) work)
+  pub made : s .made ≡ length (work .made)
   pub holds : held l s (outcome l) ≡ orderedOf (circuitOf l) work
 
 pub success : (l : Lent) (s : Summary) → Succeeds l s → Success l s
+unfolding orderedOf
 success l s e =
     let k = success-from l s e in
     record {
       work = k .0;
       ends = k .1;
       sums = k .2;
+      made = ap (λ (x : Summary). x .made) (k .2);
       holds = ap (λ (x : Summary). held l x (outcome l)) (k .2) ∙ held-is l (k .0) (k .1);
     }
 
@@ -265,13 +230,6 @@ success l s e =
 module _ (l : Lent) (s : Summary) (e : Succeeds l s) where
   abbrev from : Success l s
   from = success l s e
-
-  pub writes : (images : List ℕ) × (length images ≡ circuitOf l .top + 1) × (outcome l ≡ written l (circuitOf l) images (held l s (outcome l)))
-  writes = (
-    from .work .images,
-    facts l (from .work) (from .ends) .1 .inv .size,
-    success-of l (from .work) (from .ends) ∙ ap (written l (circuitOf l) (from .work .images)) (sym (from .holds)),
-  )
 
   pub sizes : (s .made ≡ length (held l s (outcome l) .gates)) × (s .made ≤ length (circuitOf l .gates))
       × (s .top .0 ≡ length (l .inputs) + length (l .states) + s .made) × (s .top .0 ≤ circuitOf l .top)
@@ -298,12 +256,3 @@ module _ (l : Lent) (s : Summary) (e : Succeeds l s) where
   twins on i j h k =
       subst⁻¹ (λ (O : Ordered). getD (O .gates) i noPair ≢ getD (O .gates) j noPair) (from .holds)
       (no-twins l (from .work) (from .ends) on i j h (omega (arith, ap (λ (x : Summary). x .made) (from .sums))))
-
-  pub kept : circuitOf l .hash ≡ false → circuitOf l .fold ≡ false → (g : Gate) (t : Lit) → In g (circuitOf l .gates) → HasImage l (g .output) t
-      → ((j : ℕ) × (j < s .made) × (t .0 ≡ firstCode (sourcesOf (held l s (outcome l))) + 2 * j))
-      × ((g′ : Gate) → In g′ (circuitOf l .gates) → HasImage l (g′ .output) t → g ≡ g′)
-  unfolding orderedOf
-  kept no-hash no-fold g t h k =
-      let r = gate-kept l (from .work) (from .ends) no-hash no-fold g t h k in
-      let code = r .0 .2 ∙ ap (λ (O : Ordered). firstCode (sourcesOf O) + 2 * r .0 .0) (sym (from .holds)) in
-      ((r .0 .0, omega (arith, r .0 .1, ap (λ (x : Summary). x .made) (from .sums)), code), r .1)

@@ -1,0 +1,339 @@
+-- Circuits that pin the definitions cell by cell, by computation: each is the smallest on which a neighbouring definition answers otherwise. The lent lists
+-- are dirty and three cells longer than asked, and the cells past those named are seen to stay. Assumes nothing.
+use Prim.Native.Nat.{ℕ, zero, suc, _+_, _*_, _/_}
+use mathlib.Core.Path.{_≡_, refl}
+use mathlib.Core.Logic.{inl, inr}
+use mathlib.Core.Bool.{Bool, true, false}
+use mathlib.Core.Option.{none, some}
+use mathlib.Core.List.{List, [], _∷_, _++_, map}
+use native.Mathlib.Omega.{arith}
+use lib.ListN.{length, replicate}
+use Rattle.lit.specs.Code.{literal, variable, isOdd, flipped}
+use Rattle.circuit.specs.declared.Refusal.{Refusal}
+use Rattle.circuit.specs.declared.Refusal.the-variants.{Misshapen, Short, Over, Again, StateAgain, Undefined, Cycle}
+use Rattle.circuit.specs.declared.Answer.the-variants.{Renumbered, Refused}
+use Rattle.circuit.specs.declared.Image.the-variants.{Absent, Code}
+use Rattle.circuit.specs.Graph.{In, Distinct, Gate, defined, gateFor, negated}
+use Rattle.circuit.specs.Map.{entryImage, imageIn, store, codeOf}
+use Rattle.circuit.specs.Walk.{Pair, firstCode, nextCode, folded, already, settleAs, settleOn, settle, look, throughInputs, walk, stackRoom, walkAll}
+use Rattle.circuit.specs.Circuit.{Circuit, codes, start, walked, renumber}
+use Rattle.circuit.specs.Ordered.{Ordered, imagesIn, orderedOf, sourcesOf, given, orderedGraph, InOrder, flipIf, bitOf, runGates, valuesOf, givenFrom}
+use Rattle.circuit.specs.Outcome.{Lent, lentOf, outcomeOf, gatesOf, tooBig, misshapen, tooShort, pairWords, pairsOf, conclusion, after, outcome, held}
+use Rattle.circuit.specs.Machine.{pathOf, stackWords}
+use Rattle.circuit.specs.Lending.{Flags, plain, trimming, hashing, folding, lend, circuit, Example, success, refusal, earlyRefusal}
+use Rattle.circuit.proofs.Examples.{outputs, Computes}
+
+-- the word for no image
+abbrev gone : ℕ
+gone = 4294967295
+
+abbrev gate : ℕ → ℕ → ℕ → Gate
+gate o a b = record { output = o; first = a; second = b }
+
+abbrev pair : ℕ → ℕ → Pair
+pair a b = record { larger = a; smaller = b }
+
+-- n dirty cells, and three more
+abbrev dirty : ℕ → List ℕ
+dirty n = replicate n 88 ++ (91 ∷ 92 ∷ 93 ∷ [])
+
+-- the words over the front of such a list
+abbrev over : List ℕ → List ℕ
+over ws = ws ++ (91 ∷ 92 ∷ 93 ∷ [])
+
+-- input, latch, gate and root are all there: flags, V, inputs, latch states, next states, gates (flat), root counts, roots
+abbrev whole : Flags → ℕ → List ℕ → List ℕ → List ℕ → List ℕ → List ℕ → List ℕ → Lent
+whole f top inputs states nexts gates counts roots =
+    lentOf (record { top = variable top; counts = counts; trim = f .trim; hash = f .hash; fold = f .fold }) inputs states nexts gates roots
+    (dirty (top + 1)) (dirty (length states)) (dirty (length roots)) (dirty (2 * (length gates / 3))) (dirty (3 * top + 3 + 3 * (length gates / 3)))
+
+-- answered: map, next images, gates out, root images; and a scratch of so many words
+abbrev gives : Lent → ℕ → ℕ → List ℕ → List ℕ → List ℕ → List ℕ → ℕ → Example
+gives l made top map nexts gates roots scratch =
+    record {
+      lent = l;
+      expected =
+          outcomeOf (Renumbered (record { made = made; top = variable top })) (over map) (over nexts) (over roots) (over gates) (over (replicate scratch 0));
+    }
+
+-- refused by 5 to 8: so many cells of the map hold the word for no image, and so many next images, root images, gate words and scratch words hold 0
+abbrev clears : Lent → Refusal → ℕ → ℕ → ℕ → ℕ → ℕ → Example
+clears l why map nexts roots gates scratch =
+    record {
+      lent = l;
+      expected =
+          outcomeOf (Refused why) (over (replicate map gone)) (over (replicate nexts 0)) (over (replicate roots 0)) (over (replicate gates 0))
+          (over (replicate scratch 0));
+    }
+
+-- refused by 1 to 4: so many dirty cells of each stay
+abbrev stays : Lent → Refusal → ℕ → ℕ → ℕ → ℕ → ℕ → Example
+stays l why map nexts roots gates scratch =
+    record { lent = l; expected = outcomeOf (Refused why) (dirty map) (dirty nexts) (dirty roots) (dirty gates) (dirty scratch) }
+
+-- input 2, latch (4,7), gate 6(2,5), root 7, each with one thing wrong
+abbrev cells : List Example
+cells =
+    -- nothing wrong
+    gives (whole plain 3 (2 ∷ []) (4 ∷ []) (7 ∷ []) (6 ∷ 2 ∷ 5 ∷ []) (outputs 1) (6 ∷ [])) 1 3 (0 ∷ 2 ∷ 4 ∷ 6 ∷ []) (7 ∷ []) (5 ∷ 2 ∷ []) (6 ∷ []) 15
+    -- 5: a second input 3; the gate's output 4, where the latch is not looked at yet; the gate's output 2
+    ∷ clears (whole plain 3 (2 ∷ 3 ∷ []) (4 ∷ []) (7 ∷ []) (6 ∷ 2 ∷ 5 ∷ []) (outputs 1) (6 ∷ [])) (Again (literal 3)) 4 1 1 2 15
+    ∷ clears (whole plain 3 (2 ∷ []) (4 ∷ []) (7 ∷ []) (2 ∷ 2 ∷ 5 ∷ []) (outputs 1) (6 ∷ [])) (Again (literal 2)) 4 1 1 2 15
+    ∷ clears (whole plain 3 (2 ∷ []) (4 ∷ []) (7 ∷ []) (6 ∷ 2 ∷ 5 ∷ 7 ∷ 0 ∷ 0 ∷ []) (outputs 1) (6 ∷ [])) (Again (literal 7)) 4 1 1 4 18
+    -- 6: the latch state 3, where 2 is an input; 7, where 6 is the gate; a second latch state 5
+    ∷ clears (whole plain 3 (2 ∷ []) (3 ∷ []) (7 ∷ []) (6 ∷ 2 ∷ 5 ∷ []) (outputs 1) (6 ∷ [])) (StateAgain (literal 3)) 4 1 1 2 15
+    ∷ clears (whole plain 3 (2 ∷ []) (7 ∷ []) (7 ∷ []) (6 ∷ 2 ∷ 5 ∷ []) (outputs 1) (6 ∷ [])) (StateAgain (literal 7)) 4 1 1 2 15
+    ∷ clears (whole plain 3 (2 ∷ []) (4 ∷ 5 ∷ []) (7 ∷ 0 ∷ []) (6 ∷ 2 ∷ 5 ∷ []) (outputs 1) (6 ∷ [])) (StateAgain (literal 5)) 4 2 1 2 15
+    -- 7: the gate's second input is 8, which is not defined; then the next state; then the root
+    ∷ clears (whole plain 4 (2 ∷ []) (4 ∷ []) (7 ∷ []) (6 ∷ 2 ∷ 8 ∷ []) (outputs 1) (6 ∷ [])) (Undefined (literal 8)) 5 1 1 2 18
+    ∷ clears (whole plain 4 (2 ∷ []) (4 ∷ []) (9 ∷ []) (6 ∷ 2 ∷ 5 ∷ []) (outputs 1) (8 ∷ [])) (Undefined (literal 9)) 5 1 1 2 18
+    ∷ clears (whole plain 4 (2 ∷ []) (4 ∷ []) (7 ∷ []) (6 ∷ 2 ∷ 5 ∷ []) (outputs 1) (8 ∷ [])) (Undefined (literal 8)) 5 1 1 2 18
+    -- 8: the gate's second input is the gate
+    ∷ clears (whole plain 3 (2 ∷ []) (4 ∷ []) (7 ∷ []) (6 ∷ 2 ∷ 6 ∷ []) (outputs 1) (6 ∷ [])) (Cycle (literal 6)) 4 1 1 2 15
+    -- 4: the root, the next state, the state, the second input, the first, the output, the input, each alone over 7
+    ∷ stays (whole plain 3 (2 ∷ []) (4 ∷ []) (7 ∷ []) (6 ∷ 2 ∷ 5 ∷ []) (outputs 1) (8 ∷ [])) (Over (literal 8)) 4 1 1 2 15
+    ∷ stays (whole plain 3 (2 ∷ []) (4 ∷ []) (8 ∷ []) (6 ∷ 2 ∷ 5 ∷ []) (outputs 1) (6 ∷ [])) (Over (literal 8)) 4 1 1 2 15
+    ∷ stays (whole plain 3 (2 ∷ []) (8 ∷ []) (7 ∷ []) (6 ∷ 2 ∷ 5 ∷ []) (outputs 1) (6 ∷ [])) (Over (literal 8)) 4 1 1 2 15
+    ∷ stays (whole plain 3 (2 ∷ []) (4 ∷ []) (7 ∷ []) (6 ∷ 2 ∷ 8 ∷ []) (outputs 1) (6 ∷ [])) (Over (literal 8)) 4 1 1 2 15
+    ∷ stays (whole plain 3 (2 ∷ []) (4 ∷ []) (7 ∷ []) (6 ∷ 8 ∷ 5 ∷ []) (outputs 1) (6 ∷ [])) (Over (literal 8)) 4 1 1 2 15
+    ∷ stays (whole plain 3 (2 ∷ []) (4 ∷ []) (7 ∷ []) (8 ∷ 2 ∷ 5 ∷ []) (outputs 1) (6 ∷ [])) (Over (literal 8)) 4 1 1 2 15
+    ∷ stays (whole plain 3 (8 ∷ []) (4 ∷ []) (7 ∷ []) (6 ∷ 2 ∷ 5 ∷ []) (outputs 1) (6 ∷ [])) (Over (literal 8)) 4 1 1 2 15
+    -- the largest code, 7, passes everywhere
+    ∷ gives (whole plain 3 (7 ∷ []) (5 ∷ []) (7 ∷ []) (3 ∷ 7 ∷ 7 ∷ []) (outputs 1) (7 ∷ [])) 1 3 (0 ∷ 7 ∷ 5 ∷ 3 ∷ []) (2 ∷ []) (2 ∷ 2 ∷ []) (2 ∷ []) 15
+    -- 2: no next state
+    ∷ stays (whole plain 3 (2 ∷ []) (4 ∷ []) [] (6 ∷ 2 ∷ 5 ∷ []) (outputs 1) (6 ∷ [])) Misshapen 4 1 1 2 15
+    ∷ []
+
+-- check 4 goes gate by gate and latch by latch, and through later ones too
+abbrev order : List Example
+order =
+    -- V = 1: gates 2(2,8), 9(0,0) is 8; gates 2(2,2), 2(2,8) is 8; latches (2,8), (9,2) is 8; latches (2,2), (2,8) is 8
+    earlyRefusal (circuit plain 1 [] (2 ∷ 2 ∷ 8 ∷ 9 ∷ 0 ∷ 0 ∷ []) []) (Over (literal 8))
+    ∷ earlyRefusal (circuit plain 1 [] (2 ∷ 2 ∷ 2 ∷ 2 ∷ 2 ∷ 8 ∷ []) []) (Over (literal 8))
+    ∷ earlyRefusal (lend plain 1 [] (2 ∷ 9 ∷ []) (8 ∷ 2 ∷ []) [] (outputs 0) []) (Over (literal 8))
+    ∷ earlyRefusal (lend plain 1 [] (2 ∷ 2 ∷ []) (2 ∷ 8 ∷ []) [] (outputs 0) []) (Over (literal 8))
+    -- gate 8(9,10) is 8, and gate 2(8,9) is 8
+    ∷ earlyRefusal (circuit plain 1 [] (8 ∷ 9 ∷ 10 ∷ []) []) (Over (literal 8))
+    ∷ earlyRefusal (circuit plain 1 [] (2 ∷ 8 ∷ 9 ∷ []) []) (Over (literal 8))
+    -- input 2, latches (4,10), (6,8), gates 8(2,4), 10(2,6), trim: the first latch's next state is walked first
+    ∷ success (lend trimming 5 (2 ∷ []) (4 ∷ 6 ∷ []) (10 ∷ 8 ∷ []) (8 ∷ 2 ∷ 4 ∷ 10 ∷ 2 ∷ 6 ∷ []) (outputs 0) []) 2 5
+    (0 ∷ 2 ∷ 4 ∷ 6 ∷ 10 ∷ 8 ∷ []) (8 ∷ 10 ∷ []) (6 ∷ 2 ∷ 4 ∷ 2 ∷ []) []
+    -- input 6, latches (4,2), (2,4): inputs first, then latch states in their order
+    ∷ success (lend plain 3 (6 ∷ []) (4 ∷ 2 ∷ []) (2 ∷ 4 ∷ []) [] (outputs 0) []) 0 3 (0 ∷ 6 ∷ 4 ∷ 2 ∷ []) (6 ∷ 4 ∷ []) [] []
+    -- inputs 2, 4, one root of each kind, trim: outputs, bad states, constraints, fairness, justice, in this order
+    ∷ success (lend trimming 7 (2 ∷ 4 ∷ []) [] [] (6 ∷ 2 ∷ 4 ∷ 8 ∷ 2 ∷ 5 ∷ 10 ∷ 3 ∷ 4 ∷ 12 ∷ 3 ∷ 5 ∷ 14 ∷ 2 ∷ 3 ∷ []) (1 ∷ 1 ∷ 1 ∷ 1 ∷ 1 ∷ []) (14 ∷ 12 ∷ 10 ∷ 8 ∷ 6 ∷ []))
+    5 7 (0 ∷ 2 ∷ 4 ∷ 14 ∷ 12 ∷ 10 ∷ 8 ∷ 6 ∷ []) [] (3 ∷ 2 ∷ 5 ∷ 3 ∷ 4 ∷ 3 ∷ 5 ∷ 2 ∷ 4 ∷ 2 ∷ []) (6 ∷ 8 ∷ 10 ∷ 12 ∷ 14 ∷ [])
+    -- each of the five counts is summed: one root, counted by each kind alone; and counted twice
+    ∷ success (lend plain 0 [] [] [] [] (1 ∷ 0 ∷ 0 ∷ 0 ∷ 0 ∷ []) (1 ∷ [])) 0 0 (0 ∷ []) [] [] (1 ∷ [])
+    ∷ success (lend plain 0 [] [] [] [] (0 ∷ 1 ∷ 0 ∷ 0 ∷ 0 ∷ []) (1 ∷ [])) 0 0 (0 ∷ []) [] [] (1 ∷ [])
+    ∷ success (lend plain 0 [] [] [] [] (0 ∷ 0 ∷ 1 ∷ 0 ∷ 0 ∷ []) (1 ∷ [])) 0 0 (0 ∷ []) [] [] (1 ∷ [])
+    ∷ success (lend plain 0 [] [] [] [] (0 ∷ 0 ∷ 0 ∷ 1 ∷ 0 ∷ []) (1 ∷ [])) 0 0 (0 ∷ []) [] [] (1 ∷ [])
+    ∷ success (lend plain 0 [] [] [] [] (0 ∷ 0 ∷ 0 ∷ 0 ∷ 1 ∷ []) (1 ∷ [])) 0 0 (0 ∷ []) [] [] (1 ∷ [])
+    ∷ earlyRefusal (lend plain 0 [] [] [] [] (0 ∷ 0 ∷ 0 ∷ 0 ∷ 1 ∷ []) []) Misshapen
+    ∷ earlyRefusal (lend plain 0 [] [] [] [] (1 ∷ 0 ∷ 0 ∷ 0 ∷ 1 ∷ []) (1 ∷ [])) Misshapen
+    ∷ earlyRefusal (lend plain 0 [] [] [] [] (0 ∷ 0 ∷ 0 ∷ 0 ∷ 0 ∷ []) (1 ∷ [])) Misshapen
+    ∷ []
+
+-- inputs 2, 4, twin gates 6(2,4), 8(4,2), gate 10(2,1), roots 6, 8, 10; and gate 12(5,3), which no root reaches
+abbrev twins : Bool → Bool → Bool → Lent
+twins trim hash fold =
+    lend (record { trim = trim; hash = hash; fold = fold }) 6 (2 ∷ 4 ∷ []) [] [] (6 ∷ 2 ∷ 4 ∷ 8 ∷ 4 ∷ 2 ∷ 10 ∷ 2 ∷ 1 ∷ 12 ∷ 5 ∷ 3 ∷ []) (outputs 3)
+    (6 ∷ 8 ∷ 10 ∷ [])
+
+-- under each setting of the flags: hashing alone joins the twins, folding alone takes gate 10, trimming alone leaves gate 12 out
+abbrev settings : List Example
+settings =
+    success (twins false false false) 4 6 (0 ∷ 2 ∷ 4 ∷ 6 ∷ 8 ∷ 10 ∷ 12 ∷ []) [] (4 ∷ 2 ∷ 4 ∷ 2 ∷ 2 ∷ 1 ∷ 5 ∷ 3 ∷ []) (6 ∷ 8 ∷ 10 ∷ [])
+    ∷ success (twins false false true) 3 5 (0 ∷ 2 ∷ 4 ∷ 6 ∷ 8 ∷ 2 ∷ 10 ∷ []) [] (4 ∷ 2 ∷ 4 ∷ 2 ∷ 5 ∷ 3 ∷ 0 ∷ 0 ∷ []) (6 ∷ 8 ∷ 2 ∷ [])
+    ∷ success (twins false true false) 3 5 (0 ∷ 2 ∷ 4 ∷ 6 ∷ 6 ∷ 8 ∷ 10 ∷ []) [] (4 ∷ 2 ∷ 2 ∷ 1 ∷ 5 ∷ 3 ∷ 0 ∷ 0 ∷ []) (6 ∷ 6 ∷ 8 ∷ [])
+    ∷ success (twins false true true) 2 4 (0 ∷ 2 ∷ 4 ∷ 6 ∷ 6 ∷ 2 ∷ 8 ∷ []) [] (4 ∷ 2 ∷ 5 ∷ 3 ∷ 0 ∷ 0 ∷ 0 ∷ 0 ∷ []) (6 ∷ 6 ∷ 2 ∷ [])
+    ∷ success (twins true false false) 3 5 (0 ∷ 2 ∷ 4 ∷ 6 ∷ 8 ∷ 10 ∷ gone ∷ []) [] (4 ∷ 2 ∷ 4 ∷ 2 ∷ 2 ∷ 1 ∷ 0 ∷ 0 ∷ []) (6 ∷ 8 ∷ 10 ∷ [])
+    ∷ success (twins true false true) 2 4 (0 ∷ 2 ∷ 4 ∷ 6 ∷ 8 ∷ 2 ∷ gone ∷ []) [] (4 ∷ 2 ∷ 4 ∷ 2 ∷ 0 ∷ 0 ∷ 0 ∷ 0 ∷ []) (6 ∷ 8 ∷ 2 ∷ [])
+    ∷ success (twins true true false) 2 4 (0 ∷ 2 ∷ 4 ∷ 6 ∷ 6 ∷ 8 ∷ gone ∷ []) [] (4 ∷ 2 ∷ 2 ∷ 1 ∷ 0 ∷ 0 ∷ 0 ∷ 0 ∷ []) (6 ∷ 6 ∷ 8 ∷ [])
+    ∷ success (twins true true true) 1 3 (0 ∷ 2 ∷ 4 ∷ 6 ∷ 6 ∷ 2 ∷ gone ∷ []) [] (4 ∷ 2 ∷ 0 ∷ 0 ∷ 0 ∷ 0 ∷ 0 ∷ 0 ∷ []) (6 ∷ 6 ∷ 2 ∷ [])
+    ∷ []
+
+-- the folding rows: the image of the gate 4(a,b) over the input 2, where a row takes the pair; no gate is made
+abbrev rowGives : ℕ → ℕ → ℕ → Example
+rowGives a b t = success (circuit folding 2 (2 ∷ []) (4 ∷ a ∷ b ∷ []) (4 ∷ [])) 0 1 (0 ∷ 2 ∷ t ∷ []) [] (0 ∷ 0 ∷ []) (t ∷ [])
+
+-- and where none does
+abbrev rowLeaves : ℕ → ℕ → ℕ → ℕ → Example
+rowLeaves a b hi lo = success (circuit folding 2 (2 ∷ []) (4 ∷ a ∷ b ∷ []) (4 ∷ [])) 1 2 (0 ∷ 2 ∷ 4 ∷ []) [] (hi ∷ lo ∷ []) (4 ∷ [])
+
+abbrev rows : List Example
+rows =
+    rowGives 0 0 0 ∷ rowGives 0 1 0 ∷ rowGives 1 0 0 ∷ rowGives 0 2 0 ∷ rowGives 2 0 0 ∷ rowGives 0 3 0 ∷ rowGives 3 0 0
+    ∷ rowGives 1 1 1 ∷ rowGives 1 2 2 ∷ rowGives 2 1 2 ∷ rowGives 1 3 3 ∷ rowGives 3 1 3
+    -- equal inputs, even and odd
+    ∷ rowGives 2 2 2 ∷ rowGives 3 3 3
+    -- a literal and its negation
+    ∷ rowLeaves 2 3 3 2 ∷ rowLeaves 3 2 3 2
+    -- input 2, gates 4(2,0), 6(2,1), folding: no gate is made, and all four words of the gates are 0
+    ∷ gives (whole folding 3 (2 ∷ []) [] [] (4 ∷ 2 ∷ 0 ∷ 6 ∷ 2 ∷ 1 ∷ []) (outputs 2) (4 ∷ 6 ∷ [])) 0 1 (0 ∷ 2 ∷ 0 ∷ 2 ∷ []) [] (0 ∷ 0 ∷ 0 ∷ 0 ∷ []) (0 ∷ 2 ∷ []) 18
+    -- the same gates, trim, no roots: none is reached
+    ∷ gives (whole trimming 3 (2 ∷ []) [] [] (4 ∷ 2 ∷ 0 ∷ 6 ∷ 2 ∷ 1 ∷ []) (outputs 0) []) 0 1 (0 ∷ 2 ∷ gone ∷ gone ∷ []) [] (0 ∷ 0 ∷ 0 ∷ 0 ∷ []) [] 18
+    ∷ []
+
+-- three definitions apart: inputs 2, 4, 3 and inputs 2, 4, gates 6(0,0), 5(0,0); latch states 2, 4, 3
+abbrev again : List Example
+again =
+    refusal (circuit plain 2 (2 ∷ 4 ∷ 3 ∷ []) [] []) (Again (literal 3))
+    ∷ refusal (circuit plain 3 (2 ∷ 4 ∷ []) (6 ∷ 0 ∷ 0 ∷ 5 ∷ 0 ∷ 0 ∷ []) []) (Again (literal 5))
+    ∷ refusal (lend plain 2 [] (2 ∷ 4 ∷ 3 ∷ []) (0 ∷ 0 ∷ 0 ∷ []) [] (outputs 0) []) (StateAgain (literal 3))
+    ∷ []
+
+-- hashing: inputs 2, 4, 6, gates 8(2,4), 10(2,6), 12(4,6) that share an input, two by two, and their twins 14(6,4), 16(6,2), 18(4,2), in the other order
+abbrev shared : List Example
+shared =
+    success
+    (circuit hashing 9 (2 ∷ 4 ∷ 6 ∷ []) (8 ∷ 2 ∷ 4 ∷ 10 ∷ 2 ∷ 6 ∷ 12 ∷ 4 ∷ 6 ∷ 14 ∷ 6 ∷ 4 ∷ 16 ∷ 6 ∷ 2 ∷ 18 ∷ 4 ∷ 2 ∷ []) (14 ∷ 16 ∷ 18 ∷ []))
+    3 6 (0 ∷ 2 ∷ 4 ∷ 6 ∷ 8 ∷ 10 ∷ 12 ∷ 12 ∷ 10 ∷ 8 ∷ []) [] (4 ∷ 2 ∷ 6 ∷ 2 ∷ 6 ∷ 4 ∷ 0 ∷ 0 ∷ 0 ∷ 0 ∷ 0 ∷ 0 ∷ []) (12 ∷ 10 ∷ 8 ∷ [])
+    -- input 2, gates 4(2,0), 6(2,1), 8(2,2), 10(3,2): no two share both
+    ∷ success (circuit hashing 5 (2 ∷ []) (4 ∷ 2 ∷ 0 ∷ 6 ∷ 2 ∷ 1 ∷ 8 ∷ 2 ∷ 2 ∷ 10 ∷ 3 ∷ 2 ∷ []) []) 4 5
+    (0 ∷ 2 ∷ 4 ∷ 6 ∷ 8 ∷ 10 ∷ []) [] (2 ∷ 0 ∷ 2 ∷ 1 ∷ 2 ∷ 2 ∷ 3 ∷ 2 ∷ []) []
+    ∷ []
+
+-- a size alone over its limit, by one, is 1, and at its limit passes: largest variable, inputs, latches, gates, roots
+abbrev sized : ℕ → List ℕ → List ℕ → List Gate → List ℕ → Circuit
+sized top inputs states gates roots =
+    record {
+      top = top;
+      inputs = inputs;
+      states = states;
+      nexts = [];
+      gates = gates;
+      counts = [];
+      roots = roots;
+      trim = false;
+      hash = false;
+      fold = false;
+    }
+
+pub limits-pinned : (cs over : List ℕ) (gs overs : List Gate) → length cs ≡ 1048575 → length over ≡ 1048576 → length gs ≡ 1048575 → length overs ≡ 1048576
+    → (tooBig (sized 1048576 [] [] [] []) ≡ true) × (tooBig (sized 0 over [] [] []) ≡ true) × (tooBig (sized 0 [] over [] []) ≡ true)
+    × (tooBig (sized 0 [] [] overs []) ≡ true) × (tooBig (sized 0 [] [] [] over) ≡ true) × (tooBig (sized 1048575 cs cs gs cs) ≡ false)
+unfolding tooBig
+limits-pinned cs over gs overs c o g p = (refl, rw o, rw o, rw p, rw o, rw (c, g))
+
+-- what is lent and what comes of it, field by field; flat gates, with none, one or two words left over; pairs of words
+pub fields-pinned :
+    (lentOf (record { top = variable 9; counts = 8 ∷ []; trim = true; hash = false; fold = false }) (1 ∷ []) (2 ∷ []) (3 ∷ []) (4 ∷ []) (5 ∷ []) (6 ∷ []) (7 ∷ []) (8 ∷ []) (9 ∷ []) (10 ∷ [])
+    ≡ record {
+      circuit = record { top = variable 9; counts = 8 ∷ []; trim = true; hash = false; fold = false };
+      inputs = 1 ∷ [];
+      states = 2 ∷ [];
+      nexts = 3 ∷ [];
+      gates = 4 ∷ [];
+      roots = 5 ∷ [];
+      map = 6 ∷ [];
+      nextImages = 7 ∷ [];
+      rootImages = 8 ∷ [];
+      gatesOut = 9 ∷ [];
+      scratch = 10 ∷ [];
+    })
+    × (outcomeOf (Refused Short) (1 ∷ []) (2 ∷ []) (3 ∷ []) (4 ∷ []) (5 ∷ [])
+    ≡ record { answer = Refused Short; map = 1 ∷ []; nextImages = 2 ∷ []; rootImages = 3 ∷ []; gatesOut = 4 ∷ []; scratch = 5 ∷ [] })
+    × (gatesOf (1 ∷ 2 ∷ 3 ∷ 4 ∷ 5 ∷ 6 ∷ []) ≡ gate 1 2 3 ∷ gate 4 5 6 ∷ [])
+    × (gatesOf (1 ∷ 2 ∷ 3 ∷ 4 ∷ []) ≡ gate 1 2 3 ∷ [])
+    × (gatesOf (1 ∷ 2 ∷ 3 ∷ 4 ∷ 5 ∷ []) ≡ gate 1 2 3 ∷ [])
+    × (pairsOf (1 ∷ 2 ∷ 3 ∷ 4 ∷ []) ≡ pair 1 2 ∷ pair 3 4 ∷ [])
+    × (pairsOf (1 ∷ 2 ∷ 3 ∷ []) ≡ pair 1 2 ∷ [])
+    × (pairWords (pair 1 2 ∷ pair 3 4 ∷ []) ≡ (1 ∷ 2 ∷ 3 ∷ 4 ∷ []))
+    × (codeOf Absent ≡ 0) × (codeOf (Code (literal 7)) ≡ 7)
+unfolding codeOf
+fields-pinned = (refl, refl, refl, refl, refl, refl, refl, refl, refl, refl)
+
+-- inputs 2, 4, latch (6,8), gates 8(2,4), 10(9,6), 12(2,10), roots 13, 8, 10, 1: what the lists hold afterwards
+abbrev ordered : Lent
+ordered =
+    lend plain 6 (2 ∷ 4 ∷ []) (6 ∷ []) (8 ∷ []) (8 ∷ 2 ∷ 4 ∷ 10 ∷ 9 ∷ 6 ∷ 12 ∷ 2 ∷ 10 ∷ []) (1 ∷ 0 ∷ 3 ∷ 0 ∷ 0 ∷ []) (13 ∷ 8 ∷ 10 ∷ 1 ∷ [])
+
+abbrev D : Ordered
+D =
+    record {
+      inputs = 2;
+      nexts = 8 ∷ [];
+      gates = pair 4 2 ∷ pair 9 6 ∷ pair 10 2 ∷ [];
+      counts = 1 ∷ 0 ∷ 3 ∷ 0 ∷ 0 ∷ [];
+      roots = 13 ∷ 8 ∷ 10 ∷ 1 ∷ [];
+    }
+
+-- it is that ordered circuit, whose sources are 2, 4, 6 and whose gates are 8(4,2), 10(9,6), 12(10,2)
+pub ordered-pinned :
+    (held ordered (record { made = 3; top = variable 6 }) (outcome ordered) ≡ D)
+    × (held ordered (record { made = 1; top = variable 6 }) (outcome ordered) .gates ≡ pair 4 2 ∷ [])
+    × (given D true false false
+    ≡ record {
+      top = 6;
+      inputs = 2 ∷ 4 ∷ [];
+      states = 6 ∷ [];
+      nexts = 8 ∷ [];
+      gates = gate 8 4 2 ∷ gate 10 9 6 ∷ gate 12 10 2 ∷ [];
+      counts = 1 ∷ 0 ∷ 3 ∷ 0 ∷ 0 ∷ [];
+      roots = 13 ∷ 8 ∷ 10 ∷ 1 ∷ [];
+      trim = true;
+      hash = false;
+      fold = false;
+    })
+    × (given D false true false .trim ≡ false) × (given D false true false .hash ≡ true) × (given D false true false .fold ≡ false)
+    × (given D false false true .trim ≡ false) × (given D false false true .hash ≡ false) × (given D false false true .fold ≡ true)
+    × (orderedGraph D ≡ record { sources = 2 ∷ 4 ∷ 6 ∷ []; gates = gate 8 4 2 ∷ gate 10 9 6 ∷ gate 12 10 2 ∷ [] })
+    × (sourcesOf D ≡ 3)
+unfolding outcome conclusion tooBig misshapen tooShort after renumber codes walkAll walked start store flipped walk look imageIn entryImage throughInputs settle settleOn settleAs already nextCode firstCode folded codeOf orderedOf imagesIn held given orderedGraph
+ordered-pinned = (refl, refl, refl, refl, refl, refl, refl, refl, refl, refl, refl)
+
+-- ordered over one source: larger codes first and equal ones allowed, each below its gate's code, 4 and then 6; and three lists that are not
+pub order-pinned :
+    InOrder 1 (pair 3 2 ∷ pair 5 5 ∷ []) × (InOrder 1 (pair 2 3 ∷ []) → ⊥) × (InOrder 1 (pair 4 2 ∷ []) → ⊥) × (InOrder 1 (pair 3 2 ∷ pair 6 2 ∷ []) → ⊥)
+unfolding firstCode
+order-pinned = (ok, λ h. omega (arith, h 0 (omega arith) .0), λ h. omega (arith, h 0 (omega arith) .1), λ h. omega (arith, h 1 (omega arith) .1))
+  where
+    ok : InOrder 1 (pair 3 2 ∷ pair 5 5 ∷ [])
+    ok zero h = (omega arith, omega arith)
+    ok (suc zero) h = (omega arith, omega arith)
+    ok (suc (suc j)) h = absurd (omega arith)
+
+-- what stands in a list, and what stands there once
+abbrev Among : ℕ → List ℕ → Type 0
+Among x xs = In x xs
+
+pub members-pinned : Among 2 (1 ∷ 2 ∷ []) × (Among 3 (1 ∷ 2 ∷ []) → ⊥) × Distinct (1 ∷ 2 ∷ 3 ∷ []) × (Distinct (1 ∷ 2 ∷ 1 ∷ []) → ⊥)
+members-pinned = (inr (inl refl), absent, (one, (two, (λ h. h, tt))), λ d. d .0 (inr (inl refl)))
+  where
+    absent : Among 3 (1 ∷ 2 ∷ []) → ⊥
+    absent (inl e) = omega arith
+    absent (inr (inl e)) = omega arith
+    absent (inr (inr h)) = h
+
+    one : Among 1 (2 ∷ 3 ∷ []) → ⊥
+    one (inl e) = omega arith
+    one (inr (inl e)) = omega arith
+    one (inr (inr h)) = h
+
+    two : Among 2 (3 ∷ []) → ⊥
+    two (inl e) = omega arith
+    two (inr h) = h
+
+-- the gate of a variable by either sign, what is defined, a negation; bits of gates over two sources; the room of the stack for
+-- three gates, and two words of it
+pub words-pinned :
+    (gateFor (gate 3 1 2 ∷ gate 4 5 6 ∷ []) 1 ≡ some (gate 3 1 2)) × (gateFor (gate 3 1 2 ∷ gate 4 5 6 ∷ []) 2 ≡ some (gate 4 5 6))
+    × (gateFor (gate 3 1 2 ∷ gate 4 5 6 ∷ []) 3 ≡ none)
+    × (defined (record { sources = 2 ∷ 5 ∷ []; gates = gate 7 1 2 ∷ [] }) ≡ (0 ∷ 1 ∷ 2 ∷ 3 ∷ [])) × (negated 4 ≡ 5) × (negated 5 ≡ 4)
+    × (valuesOf (pair 4 2 ∷ pair 7 2 ∷ []) (true ∷ true ∷ []) ≡ (false ∷ true ∷ true ∷ true ∷ false ∷ []))
+    × (valuesOf (pair 5 2 ∷ pair 7 3 ∷ []) (true ∷ false ∷ []) ≡ (false ∷ true ∷ false ∷ true ∷ false ∷ []))
+    × (valuesOf (pair 5 3 ∷ []) (true ∷ false ∷ []) ≡ (false ∷ true ∷ false ∷ false ∷ []))
+    × (stackRoom (record { graph = record { sources = 2 ∷ []; gates = gate 4 2 2 ∷ gate 6 2 2 ∷ gate 8 2 2 ∷ [] }; hash = false; fold = false }) ≡ 6)
+    × (stackWords (record { lit = 5; onSecond = true } ∷ record { lit = 3; onSecond = false } ∷ []) ≡ (6 ∷ 11 ∷ []))
+    × (pathOf (record { lit = 5; onSecond = true } ∷ record { lit = 3; onSecond = false } ∷ []) ≡ (3 ∷ 5 ∷ []))
+unfolding flipped valuesOf runGates bitOf flipIf isOdd
+words-pinned = (refl, refl, refl, refl, refl, refl, refl, refl, refl, refl, refl, refl)
+
+pub givens-pinned : (given : ℕ → Bool) → givenFrom given 3 2 ≡ given 3 ∷ given 4 ∷ []
+unfolding givenFrom
+givens-pinned given = refl
+
+pub pins : Computes cells × Computes order × Computes settings × Computes rows × Computes again × Computes shared
+unfolding outcome conclusion tooBig misshapen tooShort after renumber codes walkAll walked start store flipped walk look imageIn entryImage throughInputs settle settleOn settleAs already nextCode firstCode folded codeOf orderedOf imagesIn
+pins = (refl, refl, refl, refl, refl, refl)
