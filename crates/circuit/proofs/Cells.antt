@@ -60,60 +60,60 @@ module _ (l : Lent) (w : Work) (e : conclusion l ≡ reached w) where
       go (inl h) = omega (arith, inv .size)
       go (inr h) = absurd (n (List·getD-eq-default (w .images) noImage h))
 
-  after : (c : ℕ) → entry (w .images) (var c) ≢ noImage → imageAfter l c ≡ codeIn (w .images) c
+  after : (c : ℕ) → entry (w .images) (var c) ≢ noImage → imageAfter (outcome l) c ≡ codeIn (w .images) c
   after c n = ap (λ (x : ℕ). flipped x c) (cell (var c) (mapped-low (var c) n))
 
-  pub image-cell : (c : ℕ) (t : Lit) → HasImage l c t ↔ ((var c ≤ C .top) × (getD (outcome l .map) (var c) 0 ≢ noImage) × (t .0 ≡ imageAfter l c))
+  pub image-cell : (c : ℕ) (t : Lit) → HasImage l (outcome l) c t ↔ ((var c ≤ C .top) × (getD (outcome l .map) (var c) 0 ≢ noImage) × (t .0 ≡ imageAfter (outcome l) c))
   image-cell c t = (to, from)
     where
-      to : HasImage l c t → (var c ≤ C .top) × (getD (outcome l .map) (var c) 0 ≢ noImage) × (t .0 ≡ imageAfter l c)
+      to : HasImage l (outcome l) c t → (var c ≤ C .top) × (getD (outcome l .map) (var c) 0 ≢ noImage) × (t .0 ≡ imageAfter (outcome l) c)
       to h =
           let k = S.mapped-back l w e c t h in
           let low : var c ≤ C .top = mapped-low (var c) (k .0) in
           (low, λ z. k .0 (sym (cell (var c) low) ∙ z), k .1 ∙ sym (after c (k .0)))
 
-      from : (var c ≤ C .top) × (getD (outcome l .map) (var c) 0 ≢ noImage) × (t .0 ≡ imageAfter l c) → HasImage l c t
+      from : (var c ≤ C .top) × (getD (outcome l .map) (var c) 0 ≢ noImage) × (t .0 ≡ imageAfter (outcome l) c) → HasImage l (outcome l) c t
       from h =
           let n : entry (w .images) (var c) ≢ noImage = λ z. h .1 (cell (var c) (h .0) ∙ z) in
-          subst⁻¹ (λ (x : ℕ). HasImage l c (literal x)) (h .2 ∙ after c n) (S.mapped l w e c n)
+          subst⁻¹ (λ (x : ℕ). HasImage l (outcome l) c (literal x)) (h .2 ∙ after c n) (S.mapped l w e c n)
 
-  has-after : (c : ℕ) → entry (w .images) (var c) ≢ noImage → HasImage l c (literal (imageAfter l c))
-  has-after c n = subst⁻¹ (λ (x : ℕ). HasImage l c (literal x)) (after c n) (S.mapped l w e c n)
+  has-after : (c : ℕ) → entry (w .images) (var c) ≢ noImage → HasImage l (outcome l) c (literal (imageAfter (outcome l) c))
+  has-after c n = subst⁻¹ (λ (x : ℕ). HasImage l (outcome l) c (literal x)) (after c n) (S.mapped l w e c n)
 
   named-mapped : (c : ℕ) → Named C (var c) → entry (w .images) (var c) ≢ noImage
   named-mapped c h = let r = S.images-exactly l w e c .1 h in S.mapped-back l w e c (r .0) (r .1) .0
 
   -- a gate's inputs
-  larger-is : (g : Gate) → BothMapped (w .images) g → largerAfter l g ≡ largerIn (w .images) g
+  larger-is : (g : Gate) → BothMapped (w .images) g → largerAfter (outcome l) g ≡ largerIn (w .images) g
   larger-is g b = ap₂ max (after (g .first) (b .0)) (after (g .second) (b .1))
 
-  smaller-is : (g : Gate) → BothMapped (w .images) g → smallerAfter l g ≡ smallerIn (w .images) g
+  smaller-is : (g : Gate) → BothMapped (w .images) g → smallerAfter (outcome l) g ≡ smallerIn (w .images) g
   smaller-is g b = ap₂ min (after (g .first) (b .0)) (after (g .second) (b .1))
 
   -- the rows as computed, on the cells
-  row-after : (g : Gate) → BothMapped (w .images) g → RowIf (C .fold) (largerAfter l g) (smallerAfter l g) (foldedIf (C .fold) (largerIn (w .images) g) (smallerIn (w .images) g))
+  row-after : (g : Gate) → BothMapped (w .images) g → RowIf (C .fold) (largerAfter (outcome l) g) (smallerAfter (outcome l) g) (foldedIf (C .fold) (largerIn (w .images) g) (smallerIn (w .images) g))
   row-after g b =
-      subst (RowIf (C .fold) (largerAfter l g) (smallerAfter l g)) (ap₂ (foldedIf (C .fold)) (larger-is g b) (smaller-is g b))
-      (rowIf (C .fold) (largerAfter l g) (smallerAfter l g))
+      subst (RowIf (C .fold) (largerAfter (outcome l) g) (smallerAfter (outcome l) g)) (ap₂ (foldedIf (C .fold)) (larger-is g b) (smaller-is g b))
+      (rowIf (C .fold) (largerAfter (outcome l) g) (smallerAfter (outcome l) g))
 
-  taken : (g : Gate) → BothMapped (w .images) g → (t : ℕ) → foldedIf (C .fold) (largerIn (w .images) g) (smallerIn (w .images) g) ≡ some t → Taken l g t
+  taken : (g : Gate) → BothMapped (w .images) g → (t : ℕ) → foldedIf (C .fold) (largerIn (w .images) g) (smallerIn (w .images) g) ≡ some t → Taken l (outcome l) g t
   taken g b t = go (foldedIf (C .fold) (largerIn (w .images) g) (smallerIn (w .images) g)) (row-after g b)
     where
-      go : (o : Option ℕ) → RowIf (C .fold) (largerAfter l g) (smallerAfter l g) o → o ≡ some t → Taken l g t
-      go (some s) (takesIf s′ on f) k = let q : s ≡ t = cc in (on, subst (Folds (largerAfter l g) (smallerAfter l g)) q f)
+      go : (o : Option ℕ) → RowIf (C .fold) (largerAfter (outcome l) g) (smallerAfter (outcome l) g) o → o ≡ some t → Taken l (outcome l) g t
+      go (some s) (takesIf s′ on f) k = let q : s ≡ t = cc in (on, subst (Folds (largerAfter (outcome l) g) (smallerAfter (outcome l) g)) q f)
       go none (leavesIf n) k = absurd (let z : _≡_ {A = ℕ} 0 1 = cc in omega arith)
 
-  untaken : (g : Gate) → BothMapped (w .images) g → Unfolded (net C) (w .images) g → Untaken l g
+  untaken : (g : Gate) → BothMapped (w .images) g → Unfolded (net C) (w .images) g → Untaken l (outcome l) g
   untaken g b = go (foldedIf (C .fold) (largerIn (w .images) g) (smallerIn (w .images) g)) (row-after g b)
     where
-      go : (o : Option ℕ) → RowIf (C .fold) (largerAfter l g) (smallerAfter l g) o → o ≡ none → Untaken l g
+      go : (o : Option ℕ) → RowIf (C .fold) (largerAfter (outcome l) g) (smallerAfter (outcome l) g) o → o ≡ none → Untaken l (outcome l) g
       go none (leavesIf n) k = λ t h. n t (h .0) (h .1)
       go (some s) r k = absurd (let z : _≡_ {A = ℕ} 0 1 = cc in omega arith)
 
-  unfolded : (g : Gate) → BothMapped (w .images) g → Untaken l g → Unfolded (net C) (w .images) g
+  unfolded : (g : Gate) → BothMapped (w .images) g → Untaken l (outcome l) g → Unfolded (net C) (w .images) g
   unfolded g b u = go (foldedIf (C .fold) (largerIn (w .images) g) (smallerIn (w .images) g)) (row-after g b)
     where
-      go : (o : Option ℕ) → RowIf (C .fold) (largerAfter l g) (smallerAfter l g) o → o ≡ none
+      go : (o : Option ℕ) → RowIf (C .fold) (largerAfter (outcome l) g) (smallerAfter (outcome l) g) o → o ≡ none
       go none r = refl
       go (some s) (takesIf s′ on f) = absurd (u s (on, f))
 
@@ -154,7 +154,7 @@ module _ (l : Lent) (w : Work) (e : conclusion l ≡ reached w) where
   module _ (s : Summary) (sums : s .made ≡ length (w .made)) where
     is-new : (g : Gate) → entry (w .images) (outVar g) ≢ noImage → BothMapped (w .images) g → (j : ℕ) → j < length (w .made)
         → codeIn (w .images) (g .output) ≡ firstCode (sourceCount (net C)) + 2 * j → getD (w .made) j noPair ≡ pair (largerIn (w .images) g) (smallerIn (w .images) g)
-        → IsNew l s g j
+        → IsNew l (outcome l) s g j
     unfolding firstCode
     is-new g n b j h code words =
         record {
@@ -164,7 +164,7 @@ module _ (l : Lent) (w : Work) (e : conclusion l ≡ reached w) where
           smaller = smaller-word j h ∙ ap (λ (p : Pair). p .smaller) words ∙ sym (smaller-is g b);
         }
 
-    pub ruled : (g : Gate) → In g (C .gates) → Named C (outVar g) → Ruled l s g
+    pub ruled : (g : Gate) → In g (C .gates) → Named C (outVar g) → Ruled l (outcome l) s g
     ruled g h k =
         let n : entry (w .images) (outVar g) ≢ noImage = named-mapped (g .output) k in
         let b : BothMapped (w .images) g = inv .closed g h n in
@@ -172,16 +172,16 @@ module _ (l : Lent) (w : Work) (e : conclusion l ≡ reached w) where
       where
         go : entry (w .images) (outVar g) ≢ noImage → BothMapped (w .images) g
             → Makes (net C) (w .made) (largerIn (w .images) g) (smallerIn (w .images) g) (codeIn (w .images) (g .output))
-            → Taken l g (imageAfter l (g .output)) ⊎ (Untaken l g × ((j : ℕ) × IsNew l s g j))
-        go n b (inl f) = inl (subst⁻¹ (Taken l g) (after (g .output) n) (taken g b (codeIn (w .images) (g .output)) f))
+            → Taken l (outcome l) g (imageAfter (outcome l) (g .output)) ⊎ (Untaken l (outcome l) g × ((j : ℕ) × IsNew l (outcome l) s g j))
+        go n b (inl f) = inl (subst⁻¹ (Taken l (outcome l) g) (after (g .output) n) (taken g b (codeIn (w .images) (g .output)) f))
         go n b (inr m) = inr (untaken g b (m .4), (m .0, is-new g n b (m .0) (m .1) (m .2) (m .3)))
 
-    new-gate : (j : ℕ) → j < s .made → (g : Gate) × Stays l g × IsNew l s g j
+    new-gate : (j : ℕ) → j < s .made → (g : Gate) × Stays l (outcome l) g × IsNew l (outcome l) s g j
     new-gate j h =
         let k : j < length (w .made) = omega arith in
         let f : FromGate (net C) (w .images) (w .made) j = inv .from j k in
         let b : BothMapped (w .images) (f .gate) = inv .closed (f .gate) (f .isGate) (f .isMapped) in
-        let stays : Stays l (f .gate)
+        let stays : Stays l (outcome l) (f .gate)
         = record { isGate = f .isGate; isReached = done .named (outVar (f .gate)) (f .isMapped); untaken = untaken (f .gate) b (f .unfolded) } in
         (f .gate, stays, is-new (f .gate) (f .isMapped) b j k (f .code) (f .words))
 
@@ -209,7 +209,7 @@ module _ (l : Lent) (w : Work) (e : conclusion l ≡ reached w) where
         subst⁻¹ (Filled (scratchWords C) 0 (l .scratch)) is
         (filled (scratchWords C) 0 (l .scratch) (roomy l (S.facts l w e .0 .three) .scratch) (subst (Keeps (scratchWords C) (l .scratch)) is (keeps-past l .scratch)))
 
-    pub fills : Fills l C s
+    pub fills : Fills l C (outcome l) s
     fills =
         record {
           constant = cell 0 (omega arith) ∙ inv .zeroCode;
@@ -227,7 +227,7 @@ module _ (l : Lent) (w : Work) (e : conclusion l ≡ reached w) where
     images-length cs = length-map cs (λ c. codeOf (imageIn (w .images) c))
 
     -- the ordered circuit of the walk stands in the lists
-    pub holds : Holds l s (orderedOf C w)
+    pub holds : Holds l (outcome l) s (orderedOf C w)
     unfolding orderedOf
     holds =
         record {
@@ -250,44 +250,44 @@ module _ (l : Lent) (w : Work) (e : conclusion l ≡ reached w) where
         }
 
     -- a reached gate that no row takes is a new gate
-    its-place : (g : Gate) → Stays l g → (j : ℕ) × IsNew l s g j
+    its-place : (g : Gate) → Stays l (outcome l) g → (j : ℕ) × IsNew l (outcome l) s g j
     its-place g k = go (ruled g (k .isGate) (k .isReached) .became)
       where
-        go : Taken l g (imageAfter l (g .output)) ⊎ (Untaken l g × ((j : ℕ) × IsNew l s g j)) → (j : ℕ) × IsNew l s g j
-        go (inl t) = absurd (k .untaken (imageAfter l (g .output)) t)
+        go : Taken l (outcome l) g (imageAfter (outcome l) (g .output)) ⊎ (Untaken l (outcome l) g × ((j : ℕ) × IsNew l (outcome l) s g j)) → (j : ℕ) × IsNew l (outcome l) s g j
+        go (inl t) = absurd (k .untaken (imageAfter (outcome l) (g .output)) t)
         go (inr r) = r .1
 
     -- with hashing off, of its own
-    pub kept-apart : C .hash ≡ false → (g : Gate) → Stays l g → (j : ℕ) × IsNew l s g j × ((g′ : Gate) → Stays l g′ → IsNew l s g′ j → g ≡ g′)
+    pub kept-apart : C .hash ≡ false → (g : Gate) → Stays l (outcome l) g → (j : ℕ) × IsNew l (outcome l) s g j × ((g′ : Gate) → Stays l (outcome l) g′ → IsNew l (outcome l) s g′ j → g ≡ g′)
     kept-apart off g k = let p = its-place g k in (p .0, p .1, λ g′ k′ q. alone g′ k′ (p .1 .code ∙ sym (q .code)))
       where
-        alone : (g′ : Gate) → Stays l g′ → imageAfter l (g .output) ≡ imageAfter l (g′ .output) → g ≡ g′
+        alone : (g′ : Gate) → Stays l (outcome l) g′ → imageAfter (outcome l) (g .output) ≡ imageAfter (outcome l) (g′ .output) → g ≡ g′
         alone g′ k′ q =
             let n : entry (w .images) (outVar g) ≢ noImage = named-mapped (g .output) (k .isReached) in
             let n′ : entry (w .images) (outVar g′) ≢ noImage = named-mapped (g′ .output) (k′ .isReached) in
             inv .kept off g g′ (k .isGate) (k′ .isGate) n n′ (unfolded g (inv .closed g (k .isGate) n) (k .untaken))
             (unfolded g′ (inv .closed g′ (k′ .isGate) n′) (k′ .untaken)) (sym (after (g .output) n) ∙ q ∙ after (g′ .output) n′)
 
-    pairs-of : (g : Gate) (j : ℕ) → IsNew l s g j → getD (w .made) j noPair ≡ pair (largerAfter l g) (smallerAfter l g)
+    pairs-of : (g : Gate) (j : ℕ) → IsNew l (outcome l) s g j → getD (w .made) j noPair ≡ pair (largerAfter (outcome l) g) (smallerAfter (outcome l) g)
     pairs-of g j a =
         let i : j < length (w .made) = omega (arith, a .made) in
         ap₂ pair (sym (larger-word j i) ∙ a .larger) (sym (smaller-word j i) ∙ a .smaller)
 
     -- with hashing on, the same exactly when their inputs' images are the same
-    pub shared : C .hash ≡ true → (g g′ : Gate) → Stays l g → Stays l g′
-        → (imageAfter l (g .output) ≡ imageAfter l (g′ .output)) ↔ ((largerAfter l g ≡ largerAfter l g′) × (smallerAfter l g ≡ smallerAfter l g′))
+    pub shared : C .hash ≡ true → (g g′ : Gate) → Stays l (outcome l) g → Stays l (outcome l) g′
+        → (imageAfter (outcome l) (g .output) ≡ imageAfter (outcome l) (g′ .output)) ↔ ((largerAfter (outcome l) g ≡ largerAfter (outcome l) g′) × (smallerAfter (outcome l) g ≡ smallerAfter (outcome l) g′))
     shared on g g′ k k′ = (to (its-place g k) (its-place g′ k′), from (its-place g k) (its-place g′ k′))
       where
-        to : (j : ℕ) × IsNew l s g j → (j′ : ℕ) × IsNew l s g′ j′ → imageAfter l (g .output) ≡ imageAfter l (g′ .output)
-            → (largerAfter l g ≡ largerAfter l g′) × (smallerAfter l g ≡ smallerAfter l g′)
+        to : (j : ℕ) × IsNew l (outcome l) s g j → (j′ : ℕ) × IsNew l (outcome l) s g′ j′ → imageAfter (outcome l) (g .output) ≡ imageAfter (outcome l) (g′ .output)
+            → (largerAfter (outcome l) g ≡ largerAfter (outcome l) g′) × (smallerAfter (outcome l) g ≡ smallerAfter (outcome l) g′)
         to a b q =
             let p : a .0 ≡ b .0 = omega (arith, a .1 .code, b .1 .code, q) in (
               sym (a .1 .larger) ∙ ap (λ (j : ℕ). getD (outcome l .gatesOut) (2 * j) 0) p ∙ b .1 .larger,
               sym (a .1 .smaller) ∙ ap (λ (j : ℕ). getD (outcome l .gatesOut) (2 * j + 1) 0) p ∙ b .1 .smaller,
             )
 
-        from : (j : ℕ) × IsNew l s g j → (j′ : ℕ) × IsNew l s g′ j′ → (largerAfter l g ≡ largerAfter l g′) × (smallerAfter l g ≡ smallerAfter l g′)
-            → imageAfter l (g .output) ≡ imageAfter l (g′ .output)
+        from : (j : ℕ) × IsNew l (outcome l) s g j → (j′ : ℕ) × IsNew l (outcome l) s g′ j′ → (largerAfter (outcome l) g ≡ largerAfter (outcome l) g′) × (smallerAfter (outcome l) g ≡ smallerAfter (outcome l) g′)
+            → imageAfter (outcome l) (g .output) ≡ imageAfter (outcome l) (g′ .output)
         from a b q =
             a .1 .code ∙ ap (λ (j : ℕ). 2 * (length (l .inputs) + length (l .states) + 1 + j)) (go (lt-or (a .0) (b .0)) (lt-or (b .0) (a .0)))
             ∙ sym (b .1 .code)

@@ -12,11 +12,12 @@ use Rattle.circuit.specs.Walk.{Work, Out, reached, stopped}
 use Rattle.circuit.specs.Circuit.{Circuit}
 use Rattle.circuit.specs.Ordered.{imagesIn, orderedOf}
 use Rattle.circuit.specs.Outcome.{Lent, circuitOf, mapWords, scratchWords, onto, zeros, pairWords, conclusion, written, cleared, untouched, after, outcome}
-use Rattle.circuit.specs.Claims.{Roomy, Fits, IsTrue, Keeps, KeepsPast, Filled}
+use Rattle.circuit.specs.Claims.{Roomy, Keeps, KeepsPast, Filled}
+use Rattle.circuit.specs.Tested.{Fits}
 use Rattle.circuit.proofs.Settled.{settled-le}
 use Rattle.circuit.proofs.Renumber.{Done}
 use Rattle.circuit.proofs.Words.{pairs-length}
-use Rattle.circuit.proofs.Outcome.{agrees, roomy, Concluded, concluded, onto-length, onto-at, onto-past}
+use Rattle.circuit.proofs.Outcome.{WhyLent, agrees, roomy, Concluded, concluded, onto-length, onto-at, onto-past}
 
 same : (n : ℕ) (lent : List ℕ) → Keeps n lent lent
 same n lent = (refl, λ i h. refl)
@@ -91,7 +92,7 @@ module _ (l : Lent) where
           scratch = zeros-keep (scratchWords C) (l .scratch) (room .scratch);
         }
 
-  after-refusal : (r : Refusal) → IsTrue l r → KeepsPast l C (after l (stopped r))
+  after-refusal : (r : Refusal) → WhyLent l r → KeepsPast l C (after l (stopped r))
   unfolding after
   after-refusal TooBig k = after-early TooBig
   after-refusal Misshapen k = after-early Misshapen

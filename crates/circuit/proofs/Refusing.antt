@@ -1,7 +1,8 @@
--- Every lent cell after a refusal: 1 to 4 leave them all; the others fill the fronts of the lists, for which check 3 has found room. Assumes nothing.
+-- What is true where renumbering refuses, from the tests as they are computed to what they say; and every lent cell after a refusal: 1 to 4 leave them all,
+-- the others fill the fronts of the lists, for which check 3 has found room. Assumes nothing.
 use Prim.Native.Nat.{ℕ, _*_, _≤_}
-use mathlib.Core.Path.{_≡_, refl, _∙_, ap, subst, subst⁻¹}
-use mathlib.Core.Bool.{Bool, cond}
+use mathlib.Core.Path.{_≡_, refl, sym, _∙_, ap, subst, subst⁻¹}
+use mathlib.Core.Bool.{Bool, true, false, cond, true≢false}
 use mathlib.Core.List.{List}
 use native.Mathlib.Omega.{arith}
 use borrow.Author.Tests.{le-leb, lt-leb}
@@ -14,15 +15,51 @@ use Rattle.circuit.specs.Refusals.{refusalNumber}
 use Rattle.circuit.specs.Map.{noImage}
 use Rattle.circuit.specs.Circuit.{Circuit}
 use Rattle.circuit.specs.Outcome.{Lent, circuitOf, mapWords, scratchWords, cleared, untouched, outcome}
-use Rattle.circuit.specs.Claims.{Roomy, Fits, IsTrue, Keeps, KeepsPast, KeepsAll, Clears}
-use Rattle.circuit.proofs.Outcome.{roomy, concluded, Concluded, refusal-from, refusal-of}
+use Rattle.circuit.specs.Claims.{Roomy, PassesSizes, Passes, IsTrue, Keeps, KeepsPast, KeepsAll, Clears}
+use Rattle.circuit.specs.Tested.{Fits, Tested}
+use Rattle.circuit.proofs.Outcome.{WhyLent, within, agrees, roomy, from-within, from-agrees, from-roomy, bounds, tested-of, concluded, Concluded, refusal-from, refusal-of}
+use Rattle.circuit.proofs.Listed.{bounded-of, of-bounded, first-too-big}
 use Rattle.circuit.proofs.Lengths.{filled, keeps-past}
+
+-- a test that answered true is not passed
+not-passed : {P : Type 0} (b : Bool) → (P → b ≡ false) → b ≡ true → P → ⊥
+not-passed b f e p = true≢false (sym e ∙ f p)
+
+module _ (l : Lent) where
+  sizes : Fits l → PassesSizes l
+  sizes f = record { within = within l (f .one); agrees = agrees l (f .two); roomy = roomy l (f .three) }
+
+  -- checks 1 to 4 as computed say what they should
+  pub passes : Tested l → Passes l
+  passes t =
+      let s = sizes (t .fits) in
+      record { sizes = s; bounded = bounded-of (circuitOf l) (s .agrees .latches) (bounds l t) }
+
+  pub tested : Passes l → Tested l
+  tested p =
+      let s = p .sizes in
+      let f : Fits l = record { one = from-within l (s .within); two = from-agrees l (s .agrees); three = from-roomy l (s .roomy) } in
+      tested-of l f (of-bounded (circuitOf l) (p .bounded))
+
+  says : (r : Refusal) → WhyLent l r → IsTrue l r
+  says TooBig w = not-passed _ (from-within l) w
+  says Misshapen w = (within l (w .0), not-passed _ (from-agrees l) (w .1))
+  says Short w = (within l (w .0), agrees l (w .1), not-passed _ (from-roomy l) (w .2))
+  says (Over d) w = let s = sizes (w .0) in (s, first-too-big (circuitOf l) (d .0) (s .agrees .latches) (w .1))
+  says (Again d) w = (passes (w .0), w .1)
+  says (StateAgain d) w = (passes (w .0), w .1, w .2)
+  says (Undefined d) w = (passes (w .0), w .1, w .2, w .3)
+  says (Cycle d) w = (passes (w .0), w .1, w .2, w .3)
+  says (Deep d) w = w
+
+  pub refusals-true : (r : Refusal) → outcome l .answer ≡ Refused r → IsTrue l r
+  refusals-true r e = says r (subst (Concluded l) (refusal-from l r e) (concluded l))
 
 module _ (l : Lent) (r : Refusal) (e : outcome l .answer ≡ Refused r) where
   abbrev C : Circuit
   C = circuitOf l
 
-  is-true : IsTrue l r
+  is-true : WhyLent l r
   is-true = subst (Concluded l) (refusal-from l r e) (concluded l)
 
   left : outcome l ≡ cond (leb (refusalNumber r) 4) (untouched l r) (cleared l C r)
@@ -42,7 +79,7 @@ module _ (l : Lent) (r : Refusal) (e : outcome l .answer ≡ Refused r) where
         scratch = kept (l .scratch);
       })
 
-  late-fits : (q : Refusal) → IsTrue l q → 5 ≤ refusalNumber q → Fits l
+  late-fits : (q : Refusal) → WhyLent l q → 5 ≤ refusalNumber q → Fits l
   late-fits TooBig k h = absurd (omega arith)
   late-fits Misshapen k h = absurd (omega arith)
   late-fits Short k h = absurd (omega arith)

@@ -20,7 +20,9 @@ use Rattle.circuit.specs.Circuit.{Circuit, graph, net, walked, gateOutpu
 use Rattle.circuit.specs.Ordered.{Ordered, orderedWith, imagesIn, orderedOf, sourcesOf, orderedGraph, noPair, InOrder}
 use Rattle.circuit.specs.Outcome.{Lent, Outcome, circuitOf, conclusion, onto, zeros, pairWords, pairsOf, summaryOf, outcome, held}
 use Rattle.circuit.specs.declared.Summary.{Summary}
-use Rattle.circuit.specs.Claims.{Fits, Succeeds, HasImage, Named, SameValue}
+use Rattle.circuit.specs.declared.Answer.the-variants.{Renumbered}
+use Rattle.circuit.specs.Claims.{HasImage, Named, SameValue}
+use Rattle.circuit.specs.Tested.{Fits}
 use Rattle.circuit.proofs.Tests.{AtMost, atMost, above, leTest}
 use Rattle.circuit.proofs.Map.{entry, codeIn, code-image, image-code, no-image, code-in, image-entry}
 use Rattle.circuit.proofs.Lists.{In-left, In-right, In-map, In-getD}
@@ -74,10 +76,10 @@ module _ (l : Lent) (w : Work) (e : conclusion l ≡ reached w) where
           same-entry m lent d k = image-entry (onto m lent) m d (onto-at m lent (var d) noImage k)
 
   -- a variable with an entry
-  pub mapped : (c : ℕ) → entry (w .images) (var c) ≢ noImage → HasImage l c (literal (codeIn (w .images) c))
+  pub mapped : (c : ℕ) → entry (w .images) (var c) ≢ noImage → HasImage l (outcome l) c (literal (codeIn (w .images) c))
   mapped c n = lookup c ∙ code-image (w .images) c n
 
-  pub mapped-back : (c : ℕ) (t : Lit) → HasImage l c t → (entry (w .images) (var c) ≢ noImage) × (t .0 ≡ codeIn (w .images) c)
+  pub mapped-back : (c : ℕ) (t : Lit) → HasImage l (outcome l) c t → (entry (w .images) (var c) ≢ noImage) × (t .0 ≡ codeIn (w .images) c)
   mapped-back c t h = image-code (w .images) c (t .0) (sym (lookup c) ∙ h)
 
   -- the lists hold the ordered circuit
@@ -110,13 +112,13 @@ module _ (l : Lent) (w : Work) (e : conclusion l ≡ reached w) where
   unfolding orderedOf
   in-order = subst⁻¹ (λ (k : ℕ). InOrder k (w .made)) sources-same (inv .order)
 
-  code-below : (c : ℕ) (t : Lit) → HasImage l c t → t .0 < nextCode (sourceCount (net C)) (w .made)
+  code-below : (c : ℕ) (t : Lit) → HasImage l (outcome l) c t → t .0 < nextCode (sourceCount (net C)) (w .made)
   code-below c t h =
       let k = mapped-back c t h in
       subst⁻¹ (λ (s : ℕ). s < nextCode (sourceCount (net C)) (w .made)) (k .1)
       (flipped-below (entry (w .images) (var c)) c (sourceCount (net C)) (w .made) (inv .low (var c) (k .0)))
 
-  pub same-value : (c : ℕ) (t : Lit) → HasImage l c t → (given : ℕ → Bool) → SameValue (graph C) (orderedGraph O) given c (t .0)
+  pub same-value : (c : ℕ) (t : Lit) → HasImage l (outcome l) c t → (given : ℕ → Bool) → SameValue (graph C) (orderedGraph O) given c (t .0)
   unfolding orderedOf
   same-value c t h given =
       let k = mapped-back c t h in
@@ -136,32 +138,32 @@ module _ (l : Lent) (w : Work) (e : conclusion l ≡ reached w) where
 
   -- next states and roots
   image-at : (cs lent : List ℕ) → ((c : ℕ) → In c cs → In c (walked C)) → (j : ℕ) → j < length cs
-      → HasImage l (getD cs j 0) (literal (getD (onto (imagesIn (w .images) cs) lent) j 0))
+      → HasImage l (outcome l) (getD cs j 0) (literal (getD (onto (imagesIn (w .images) cs) lent) j 0))
   unfolding imagesIn
   image-at cs lent all j h =
       let n : entry (w .images) (var (getD cs j 0)) ≢ noImage = done .images (getD cs j 0) (all (getD cs j 0) (In-getD cs j 0 h)) in
       let k : getD (onto (imagesIn (w .images) cs) lent) j 0 ≡ codeIn (w .images) (getD cs j 0)
       = onto-at (imagesIn (w .images) cs) lent j 0 (omega (arith, images-length cs))
       ∙ getD-map-in (λ c. codeOf (imageIn (w .images) c)) cs j 0 0 h ∙ code-in (w .images) (getD cs j 0) n in
-      subst⁻¹ (λ (t : ℕ). HasImage l (getD cs j 0) (literal t)) k (mapped (getD cs j 0) n)
+      subst⁻¹ (λ (t : ℕ). HasImage l (outcome l) (getD cs j 0) (literal t)) k (mapped (getD cs j 0) n)
 
-  pub next-image : (j : ℕ) → j < length (l .nexts) → HasImage l (getD (l .nexts) j 0) (literal (getD (outcome l .nextImages) j 0))
+  pub next-image : (j : ℕ) → j < length (l .nexts) → HasImage l (outcome l) (getD (l .nexts) j 0) (literal (getD (outcome l .nextImages) j 0))
   unfolding walked orderedOf
   next-image j h =
-      subst⁻¹ (λ (o : Outcome). HasImage l (getD (l .nexts) j 0) (literal (getD (o .nextImages) j 0))) (success-of l w e)
+      subst⁻¹ (λ (o : Outcome). HasImage l (outcome l) (getD (l .nexts) j 0) (literal (getD (o .nextImages) j 0))) (success-of l w e)
       (image-at (l .nexts) (l .nextImages) (λ c k. In-right c (cond (C .trim) [] (gateOutputs C)) _ (In-left c (C .nexts) (C .roots) k)) j h)
 
-  pub root-image : (j : ℕ) → j < length (l .roots) → HasImage l (getD (l .roots) j 0) (literal (getD (outcome l .rootImages) j 0))
+  pub root-image : (j : ℕ) → j < length (l .roots) → HasImage l (outcome l) (getD (l .roots) j 0) (literal (getD (outcome l .rootImages) j 0))
   unfolding walked orderedOf
   root-image j h =
-      subst⁻¹ (λ (o : Outcome). HasImage l (getD (l .roots) j 0) (literal (getD (o .rootImages) j 0))) (success-of l w e)
+      subst⁻¹ (λ (o : Outcome). HasImage l (outcome l) (getD (l .roots) j 0) (literal (getD (o .rootImages) j 0))) (success-of l w e)
       (image-at (l .roots) (l .rootImages) (λ c k. In-right c (cond (C .trim) [] (gateOutputs C)) _ (In-right c (C .nexts) (C .roots) k)) j h)
 
-  pub walked-image : (c : ℕ) → In c (walked C) → (t : Lit) × HasImage l c t
+  pub walked-image : (c : ℕ) → In c (walked C) → (t : Lit) × HasImage l (outcome l) c t
   walked-image c h = (literal (codeIn (w .images) c), mapped c (done .images c h))
 
   -- a literal has an image exactly when its variable is the constant's, a source's, or reached from a walked literal
-  pub images-exactly : (c : ℕ) → (((t : Lit) × HasImage l c t) → Named C (var c)) × (Named C (var c) → (t : Lit) × HasImage l c t)
+  pub images-exactly : (c : ℕ) → (((t : Lit) × HasImage l (outcome l) c t) → Named C (var c)) × (Named C (var c) → (t : Lit) × HasImage l (outcome l) c t)
   images-exactly c = (λ h. done .named (var c) (mapped-back c (h .0) (h .1) .0), λ h. (literal (codeIn (w .images) c), mapped c (go h)))
     where
       go : Named C (var c) → entry (w .images) (var c) ≢ noImage
@@ -175,24 +177,24 @@ module _ (l : Lent) (w : Work) (e : conclusion l ≡ reached w) where
   pub top-within : sourcesOf O + length (w .made) ≤ C .top
   top-within = omega (arith, sources-same, made-few, counting C (limits l (facts .0)) (done .bounds) (done .once))
 
-  pub code-within : (c : ℕ) (t : Lit) → HasImage l c t → t .0 ≤ 2 * (sourcesOf O + length (w .made)) + 1
+  pub code-within : (c : ℕ) (t : Lit) → HasImage l (outcome l) c t → t .0 ≤ 2 * (sourcesOf O + length (w .made)) + 1
   unfolding nextCode firstCode
   code-within c t h = omega (arith, code-below c t h, sources-same)
 
-  pub code-word : (c : ℕ) (t : Lit) → HasImage l c t → t .0 < noImage
+  pub code-word : (c : ℕ) (t : Lit) → HasImage l (outcome l) c t → t .0 < noImage
   code-word c t h = omega (arith, code-below c t h, codes-fit (net C) (C .top) w (sized C (limits l (facts .0)) (done .bounds)) inv)
 
   -- the codes of the constant and of the sources
-  pub constant-code : HasImage l 0 (literal 0)
+  pub constant-code : HasImage l (outcome l) 0 (literal 0)
   unfolding flipped
   constant-code =
       let k : codeIn (w .images) 0 ≡ 0 = ap (λ (x : ℕ). flipped x 0) (inv .zeroCode) in
-      subst (λ (t : ℕ). HasImage l 0 (literal t)) k (mapped 0 (inv .leaves 0 (inl refl)))
+      subst (λ (t : ℕ). HasImage l (outcome l) 0 (literal t)) k (mapped 0 (inv .leaves 0 (inl refl)))
 
-  pub source-code : (k : ℕ) → k < length (graph C .sources) → HasImage l (getD (graph C .sources) k 0) (literal (2 * (k + 1)))
+  pub source-code : (k : ℕ) → k < length (graph C .sources) → HasImage l (outcome l) (getD (graph C .sources) k 0) (literal (2 * (k + 1)))
   source-code k h =
       let d : ℕ = getD (graph C .sources) k 0 in
-      subst (λ (t : ℕ). HasImage l d (literal t)) (inv .sourceCodes k h)
+      subst (λ (t : ℕ). HasImage l (outcome l) d (literal t)) (inv .sourceCodes k h)
       (mapped d (inv .leaves (var d) (inr (In-map var d (graph C .sources) (In-getD (graph C .sources) k 0 h)))))
 
   -- hashing makes no pair twice
@@ -214,7 +216,7 @@ pub record Success (l : Lent) (s : Summary) : Type 0 where
   pub made : s .made ≡ length (work .made)
   pub holds : held l s (outcome l) ≡ orderedOf (circuitOf l) work
 
-pub success : (l : Lent) (s : Summary) → Succeeds l s → Success l s
+pub success : (l : Lent) (s : Summary) → outcome l .answer ≡ Renumbered s → Success l s
 unfolding orderedOf
 success l s e =
     let k = success-from l s e in
@@ -227,7 +229,7 @@ success l s e =
     }
 
 -- the same with the summary answered
-module _ (l : Lent) (s : Summary) (e : Succeeds l s) where
+module _ (l : Lent) (s : Summary) (e : outcome l .answer ≡ Renumbered s) where
   abbrev from : Success l s
   from = success l s e
 
@@ -245,7 +247,7 @@ module _ (l : Lent) (s : Summary) (e : Succeeds l s) where
         omega (arith, top, top-within l (from .work) (from .ends)),
       )
 
-  pub codes-within : (c : ℕ) (t : Lit) → HasImage l c t → (t .0 ≤ 2 * s .top .0 + 1) × (t .0 < noImage)
+  pub codes-within : (c : ℕ) (t : Lit) → HasImage l (outcome l) c t → (t .0 ≤ 2 * s .top .0 + 1) × (t .0 < noImage)
   unfolding orderedOf
   codes-within c t h =
       let top : s .top .0 ≡ sourcesOf (orderedOf (circuitOf l) (from .work)) + length (from .work .made) = ap (λ (x : Summary). x .top .0) (from .sums) in

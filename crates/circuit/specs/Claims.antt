@@ -1,9 +1,9 @@
--- The words of the customer's demands: what the theorems of proofs/Demands.antt say. Assumes nothing.
+-- The words of the customer's demands, which specs/Demands.antt says: of the circuit that is lent, and of an outcome o, which is what is left afterwards.
+-- Assumes nothing.
 use Prim.Native.Nat.{ℕ, _+_, _*_, _/_, _%_, _<_, _≤_, min, max}
 use mathlib.Core.Path.{_≡_}
 use mathlib.Core.Logic.{_⊎_}
 use mathlib.Core.Bool.{Bool, true, false}
-use mathlib.Core.Option.{none}
 use mathlib.Core.List.{List, [], _∷_, _++_, map}
 use lib.ListN.{length, getD}
 use Rattle.lit.specs.Code.{var, literal, flipped}
@@ -12,12 +12,11 @@ use Rattle.circuit.specs.declared.Image.the-variants.{Code}
 use Rattle.circuit.specs.declared.Refusal.{Refusal}
 use Rattle.circuit.specs.declared.Refusal.the-variants.{TooBig, Misshapen, Short, Over, Again, StateAgain, Undefined, Cycle, Deep}
 use Rattle.circuit.specs.declared.Summary.{Summary}
-use Rattle.circuit.specs.declared.Answer.the-variants.{Renumbered}
 use Rattle.circuit.specs.Graph.{In, Distinct, Gate, outVar, Graph, defined, DefinedOnce, Reach, Loop, Grounded, Uses, Means}
 use Rattle.circuit.specs.Map.{noImage, imageOf}
-use Rattle.circuit.specs.Circuit.{Circuit, graph, codes, firstOver, definitions, walked}
+use Rattle.circuit.specs.Circuit.{Circuit, graph, walked}
 use Rattle.circuit.specs.Ordered.{Ordered, noPair}
-use Rattle.circuit.specs.Outcome.{Lent, Outcome, circuitOf, limit, tooBig, total, misshapen, tooShort, outcome}
+use Rattle.circuit.specs.Outcome.{Lent, Outcome, circuitOf, limit, total}
 
 -- what a lookup past the gates gives
 abbrev pub noGate : Gate
@@ -77,23 +76,15 @@ pub record Bounded (C : Circuit) : Type 0 where
   pub nexts : AllWithin (largestCode C) (C .nexts)
   pub roots : AllWithin (largestCode C) (C .roots)
 
--- the same of the one list that the check goes through
-abbrev pub InBounds : Circuit → Type 0
-InBounds C = AllWithin (2 * C .top + 1) (codes C)
-
--- checks 1 to 3 are passed, and check 4 too, as they are computed
-pub record Fits (l : Lent) : Type 0 where
-  pub one : tooBig (circuitOf l) ≡ false
-  pub two : misshapen l ≡ false
-  pub three : tooShort l (circuitOf l) ≡ false
+-- checks 1 to 3 are passed; and checks 1 to 4
+pub record PassesSizes (l : Lent) : Type 0 where
+  pub within : Within (circuitOf l)
+  pub agrees : Agrees l
+  pub roomy : Roomy l (circuitOf l)
 
 pub record Passes (l : Lent) : Type 0 where
-  pub fits : Fits l
-  pub four : firstOver (2 * circuitOf l .top + 1) (codes (circuitOf l)) ≡ none
-
--- renumbering answers success, with this summary
-abbrev pub Succeeds : Lent → Summary → Type 0
-Succeeds l s = outcome l .answer ≡ Renumbered s
+  pub sizes : PassesSizes l
+  pub bounded : Bounded (circuitOf l)
 
 -- the literal is walked: with trim off each gate's output, and always each next state and root
 abbrev pub IsWalked : Circuit → ℕ → Type 0
@@ -103,9 +94,9 @@ IsWalked C c = ((g : Gate) × In g (C .gates) × (g .output ≡ c) × (C .trim �
 abbrev pub AllGrounded : Circuit → Type 0
 AllGrounded C = (c : ℕ) → In c (walked C) → Grounded (graph C) (var c)
 
--- the literal c has the image t in the map afterwards
-abbrev pub HasImage : Lent → ℕ → Lit → Type 0
-HasImage l c t = imageOf (circuitOf l .top) (outcome l .map) c ≡ Code t
+-- the literal c has the image t in the map afterwards, as a lookup answers it
+abbrev pub HasImage : Lent → Outcome → ℕ → Lit → Type 0
+HasImage l o c t = imageOf (circuitOf l .top) (o .map) c ≡ Code t
 
 -- the variable is the constant's, an input's or a latch's, or is reached from a walked literal
 abbrev pub Named : Circuit → ℕ → Type 0
@@ -127,41 +118,41 @@ pub data Folds (hi lo : ℕ) : ℕ → Type 0 where
   smallerOne : lo ≡ 1 → Folds hi lo hi
 
 -- what the map says of a literal afterwards: the cell of its variable, with the low bit flipped if the literal is odd
-abbrev pub imageAfter : Lent → ℕ → ℕ
-imageAfter l c = flipped (getD (outcome l .map) (var c) 0) c
+abbrev pub imageAfter : Outcome → ℕ → ℕ
+imageAfter o c = flipped (getD (o .map) (var c) 0) c
 
 -- the larger and the smaller of the images of a gate's inputs
-abbrev pub largerAfter : Lent → Gate → ℕ
-largerAfter l g = max (imageAfter l (g .first)) (imageAfter l (g .second))
+abbrev pub largerAfter : Outcome → Gate → ℕ
+largerAfter o g = max (imageAfter o (g .first)) (imageAfter o (g .second))
 
-abbrev pub smallerAfter : Lent → Gate → ℕ
-smallerAfter l g = min (imageAfter l (g .first)) (imageAfter l (g .second))
+abbrev pub smallerAfter : Outcome → Gate → ℕ
+smallerAfter o g = min (imageAfter o (g .first)) (imageAfter o (g .second))
 
 -- folding is on, and a row takes the images of the gate's inputs and gives t; and no row takes them, or folding is off
-abbrev pub Taken : Lent → Gate → ℕ → Type 0
-Taken l g t = (l .circuit .fold ≡ true) × Folds (largerAfter l g) (smallerAfter l g) t
+abbrev pub Taken : Lent → Outcome → Gate → ℕ → Type 0
+Taken l o g t = (l .circuit .fold ≡ true) × Folds (largerAfter o g) (smallerAfter o g) t
 
-abbrev pub Untaken : Lent → Gate → Type 0
-Untaken l g = (t : ℕ) → Taken l g t → ⊥
+abbrev pub Untaken : Lent → Outcome → Gate → Type 0
+Untaken l o g = (t : ℕ) → Taken l o g t → ⊥
 
 -- a reached gate of the circuit that no folding row takes
-pub record Stays (l : Lent) (g : Gate) : Type 0 where
+pub record Stays (l : Lent) (o : Outcome) (g : Gate) : Type 0 where
   pub isGate : In g (circuitOf l .gates)
   pub isReached : Named (circuitOf l) (outVar g)
-  pub untaken : Untaken l g
+  pub untaken : Untaken l o g
 
 -- the gate is the j-th new gate: its image is that gate's code, and the images of its inputs are that gate's two words, larger first
-pub record IsNew (l : Lent) (s : Summary) (g : Gate) (j : ℕ) : Type 0 where
+pub record IsNew (l : Lent) (o : Outcome) (s : Summary) (g : Gate) (j : ℕ) : Type 0 where
   pub made : j < s .made
-  pub code : imageAfter l (g .output) ≡ 2 * (length (l .inputs) + length (l .states) + 1 + j)
-  pub larger : getD (outcome l .gatesOut) (2 * j) 0 ≡ largerAfter l g
-  pub smaller : getD (outcome l .gatesOut) (2 * j + 1) 0 ≡ smallerAfter l g
+  pub code : imageAfter o (g .output) ≡ 2 * (length (l .inputs) + length (l .states) + 1 + j)
+  pub larger : getD (o .gatesOut) (2 * j) 0 ≡ largerAfter o g
+  pub smaller : getD (o .gatesOut) (2 * j + 1) 0 ≡ smallerAfter o g
 
 -- what became of a gate that has an image: its inputs have images, and a row takes them and gives the gate's image, or none does and it is a new gate
-pub record Ruled (l : Lent) (s : Summary) (g : Gate) : Type 0 where
-  pub first : HasImage l (g .first) (literal (imageAfter l (g .first)))
-  pub second : HasImage l (g .second) (literal (imageAfter l (g .second)))
-  pub became : Taken l g (imageAfter l (g .output)) ⊎ (Untaken l g × ((j : ℕ) × IsNew l s g j))
+pub record Ruled (l : Lent) (o : Outcome) (s : Summary) (g : Gate) : Type 0 where
+  pub first : HasImage l o (g .first) (literal (imageAfter o (g .first)))
+  pub second : HasImage l o (g .second) (literal (imageAfter o (g .second)))
+  pub became : Taken l o g (imageAfter o (g .output)) ⊎ (Untaken l o g × ((j : ℕ) × IsNew l o s g j))
 
 -- c is the first of the list over the bound
 pub record FirstOver (bound : ℕ) (cs : List ℕ) (c : ℕ) : Type 0 where
@@ -196,15 +187,19 @@ pub record FirstAgain (seen ds : List ℕ) (d : ℕ) : Type 0 where
 abbrev pub IsUsed : Circuit → ℕ → Type 0
 IsUsed C d = (c : ℕ) × In c (walked C) × Uses (graph C) c d
 
+-- what checks 5 and 6 go through: inputs and gate outputs, and then latch states
+abbrev pub definedFirst : Circuit → List ℕ
+definedFirst C = C .inputs ++ map (λ g. g .output) (C .gates)
+
 -- what is true where renumbering refuses: the checks before are passed, and this one is not. 9 is never given
 abbrev pub IsTrue : Lent → Refusal → Type 0
-IsTrue l TooBig = tooBig (circuitOf l) ≡ true
-IsTrue l Misshapen = (tooBig (circuitOf l) ≡ false) × (misshapen l ≡ true)
-IsTrue l Short = (tooBig (circuitOf l) ≡ false) × (misshapen l ≡ false) × (tooShort l (circuitOf l) ≡ true)
-IsTrue l (Over d) = Fits l × FirstOver (2 * circuitOf l .top + 1) (codes (circuitOf l)) (d .0)
-IsTrue l (Again d) = Passes l × FirstAgain (0 ∷ []) (definitions (circuitOf l)) (d .0)
+IsTrue l TooBig = Within (circuitOf l) → ⊥
+IsTrue l Misshapen = Within (circuitOf l) × (Agrees l → ⊥)
+IsTrue l Short = Within (circuitOf l) × Agrees l × (Roomy l (circuitOf l) → ⊥)
+IsTrue l (Over d) = PassesSizes l × FirstTooBig (circuitOf l) (d .0)
+IsTrue l (Again d) = Passes l × FirstAgain (0 ∷ []) (definedFirst (circuitOf l)) (d .0)
 IsTrue l (StateAgain d) =
-    Passes l × Distinct (0 ∷ map var (definitions (circuitOf l))) × FirstAgain (0 ∷ map var (definitions (circuitOf l))) (l .states) (d .0)
+    Passes l × Distinct (0 ∷ map var (definedFirst (circuitOf l))) × FirstAgain (0 ∷ map var (definedFirst (circuitOf l))) (l .states) (d .0)
 IsTrue l (Undefined d) =
     Passes l × DefinedOnce (graph (circuitOf l)) × IsUsed (circuitOf l) (d .0) × (In (var (d .0)) (defined (graph (circuitOf l))) → ⊥)
 IsTrue l (Cycle d) = Passes l × DefinedOnce (graph (circuitOf l)) × IsUsed (circuitOf l) (d .0) × Loop (graph (circuitOf l)) (var (d .0))
@@ -246,29 +241,29 @@ pub record Clears (l : Lent) (C : Circuit) (o : Outcome) : Type 0 where
   pub scratch : Filled (3 * C .top + 3 + 3 * length (C .gates)) 0 (l .scratch) (o .scratch)
 
 -- after a success that made g gates, but for what reached gates became (`Ruled`) and the cells past those named (`KeepsPast`)
-pub record Fills (l : Lent) (C : Circuit) (s : Summary) : Type 0 where
+pub record Fills (l : Lent) (C : Circuit) (o : Outcome) (s : Summary) : Type 0 where
   -- the constant's cell is 0; the k-th of the inputs and latch states has 2 (k + 1), with the low bit flipped if it is odd; a variable not
   -- named has no image
-  pub constant : getD (outcome l .map) 0 0 ≡ 0
+  pub constant : getD (o .map) 0 0 ≡ 0
   pub sources : (k : ℕ) → k < length (C .inputs) + length (C .states)
-      → getD (outcome l .map) (var (getD (C .inputs ++ C .states) k 0)) 0 ≡ flipped (2 * (k + 1)) (getD (C .inputs ++ C .states) k 0)
-  pub unnamed : (v : ℕ) → v ≤ C .top → (Named C v → ⊥) → getD (outcome l .map) v 0 ≡ noImage
+      → getD (o .map) (var (getD (C .inputs ++ C .states) k 0)) 0 ≡ flipped (2 * (k + 1)) (getD (C .inputs ++ C .states) k 0)
+  pub unnamed : (v : ℕ) → v ≤ C .top → (Named C v → ⊥) → getD (o .map) v 0 ≡ noImage
   -- next images and root images are what the map says of the next states and roots
-  pub nexts : (j : ℕ) → j < length (C .states) → getD (outcome l .nextImages) j 0 ≡ imageAfter l (getD (C .nexts) j 0)
-  pub roots : (j : ℕ) → j < length (C .roots) → getD (outcome l .rootImages) j 0 ≡ imageAfter l (getD (C .roots) j 0)
+  pub nexts : (j : ℕ) → j < length (C .states) → getD (o .nextImages) j 0 ≡ imageAfter o (getD (C .nexts) j 0)
+  pub roots : (j : ℕ) → j < length (C .roots) → getD (o .rootImages) j 0 ≡ imageAfter o (getD (C .roots) j 0)
   -- each new gate is an old one; words after the g gates are 0, and so is the scratch
-  pub gates : (j : ℕ) → j < s .made → (g : Gate) × Stays l g × IsNew l s g j
-  pub tail : (i : ℕ) → 2 * s .made ≤ i → i < 2 * length (C .gates) → getD (outcome l .gatesOut) i 0 ≡ 0
-  pub scratch : Filled (3 * C .top + 3 + 3 * length (C .gates)) 0 (l .scratch) (outcome l .scratch)
+  pub gates : (j : ℕ) → j < s .made → (g : Gate) × Stays l o g × IsNew l o s g j
+  pub tail : (i : ℕ) → 2 * s .made ≤ i → i < 2 * length (C .gates) → getD (o .gatesOut) i 0 ≡ 0
+  pub scratch : Filled (3 * C .top + 3 + 3 * length (C .gates)) 0 (l .scratch) (o .scratch)
 
 -- the ordered circuit D that the lists hold then: its gates are the pairs of words, its next states and roots the images
-pub record Holds (l : Lent) (s : Summary) (D : Ordered) : Type 0 where
+pub record Holds (l : Lent) (o : Outcome) (s : Summary) (D : Ordered) : Type 0 where
   pub inputs : D .inputs ≡ length (l .inputs)
   pub latches : length (D .nexts) ≡ length (l .states)
-  pub nexts : (j : ℕ) → j < length (l .states) → getD (D .nexts) j 0 ≡ getD (outcome l .nextImages) j 0
+  pub nexts : (j : ℕ) → j < length (l .states) → getD (D .nexts) j 0 ≡ getD (o .nextImages) j 0
   pub made : length (D .gates) ≡ s .made
   pub gates : (j : ℕ) → j < s .made
-      → getD (D .gates) j noPair ≡ record { larger = getD (outcome l .gatesOut) (2 * j) 0; smaller = getD (outcome l .gatesOut) (2 * j + 1) 0 }
+      → getD (D .gates) j noPair ≡ record { larger = getD (o .gatesOut) (2 * j) 0; smaller = getD (o .gatesOut) (2 * j + 1) 0 }
   pub counts : D .counts ≡ l .circuit .counts
   pub rootCount : length (D .roots) ≡ length (l .roots)
-  pub roots : (j : ℕ) → j < length (l .roots) → getD (D .roots) j 0 ≡ getD (outcome l .rootImages) j 0
+  pub roots : (j : ℕ) → j < length (l .roots) → getD (D .roots) j 0 ≡ getD (o .rootImages) j 0
