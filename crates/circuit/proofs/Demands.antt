@@ -4,6 +4,7 @@ pub use Rattle.circuit.proofs.Starred.{starred}
 pub use Rattle.circuit.proofs.Examples.{examples, lookups, numbers}
 pub use Rattle.circuit.proofs.Pins.{pins, limits-pinned, fields-pinned, ordered-pinned, order-pinned, members-pinned, words-pinned, givens-pinned}
 pub use Rattle.circuit.proofs.Improvements.{improvements}
+pub use Rattle.circuit.proofs.Told.{told}
 use Prim.Native.Nat.{ℕ, _≤_}
 use mathlib.Core.Path.{_≡_, sym, _∙_, subst⁻¹}
 use mathlib.Core.Logic.{_↔_}
@@ -72,6 +73,7 @@ module _ (l : Lent) where
       let from = S.success l s e in
       let sizes = S.sizes l s e in
       record {
+        passes = R.passes l (S.tested l (from .work) (from .ends));
         fills = K.fills l (from .work) (from .ends) s (from .made);
         holds = subst⁻¹ (Holds l (outcome l) s) (from .holds) (K.holds l (from .work) (from .ends) s (from .made));
         imageCells = K.image-cell l (from .work) (from .ends);

@@ -1,4 +1,5 @@
 pub mod Demands
+pub mod Told
 pub mod Starred
 pub mod Examples
 pub mod Pins

@@ -22,7 +22,7 @@ use Rattle.circuit.specs.Outcome.{Lent, Outcome, circuitOf, conclusion, 
 use Rattle.circuit.specs.declared.Summary.{Summary}
 use Rattle.circuit.specs.declared.Answer.the-variants.{Renumbered}
 use Rattle.circuit.specs.Claims.{HasImage, Named, SameValue}
-use Rattle.circuit.specs.Tested.{Fits}
+use Rattle.circuit.specs.Tested.{Fits, Tested}
 use Rattle.circuit.proofs.Tests.{AtMost, atMost, above, leTest}
 use Rattle.circuit.proofs.Map.{entry, codeIn, code-image, image-code, no-image, code-in, image-entry}
 use Rattle.circuit.proofs.Lists.{In-left, In-right, In-map, In-getD}
@@ -34,7 +34,7 @@ use Rattle.circuit.proofs.Invariant.{Inv, lit-reads, flipped-below, cod
 use Rattle.circuit.proofs.Ordered.{ordered-once, ordered-means}
 use Rattle.circuit.proofs.Renumber.{Done, sized, counting, reach-mapped}
 use Rattle.circuit.proofs.Words.{pairs-length, pairs-back}
-use Rattle.circuit.proofs.Outcome.{agrees, limits, concluded, Concluded, success-from, success-of, onto-take, onto-at, getD-map-in}
+use Rattle.circuit.proofs.Outcome.{agrees, limits, tested-of, concluded, Concluded, success-from, success-of, onto-take, onto-at, getD-map-in}
 
 module _ (l : Lent) (w : Work) (e : conclusion l ≡ reached w) where
   abbrev C : Circuit
@@ -45,6 +45,9 @@ module _ (l : Lent) (w : Work) (e : conclusion l ≡ reached w) where
 
   pub facts : Fits l × Done C w
   facts = subst (Concluded l) e (concluded l)
+
+  pub tested : Tested l
+  tested = tested-of l (facts .0) (facts .1 .bounds)
 
   abbrev done : Done C w
   done = facts .1

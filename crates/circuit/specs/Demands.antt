@@ -22,6 +22,8 @@ use Rattle.circuit.specs.Claims.{Passes, AllGrounded, HasImage, Named, S
 
 -- after a success that answered s, where the lists hold the ordered circuit D
 pub record AfterSuccess (l : Lent) (C : Circuit) (o : Outcome) (s : Summary) (D : Ordered) : Type 0 where
+  -- only what passes checks 1 to 4 succeeds
+  pub passes : Passes l
   -- every cell of the lists: the map's, the next and root images, the words of the new gates, the zeros after them and in the scratch
   pub fills : Fills l C o s
   -- D's gates are those words, its next states and roots those images
