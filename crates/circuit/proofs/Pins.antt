@@ -1,25 +1,26 @@
 -- Circuits that pin the definitions cell by cell, by computation: each is the smallest on which a neighbouring definition answers otherwise. The lent lists
 -- are dirty and three cells longer than asked, and the cells past those named are seen to stay. Assumes nothing.
-use Prim.Native.Nat.{ℕ, zero, suc, _+_, _*_, _/_}
-use mathlib.Core.Path.{_≡_, refl}
-use mathlib.Core.Logic.{inl, inr}
-use mathlib.Core.Bool.{Bool, true, false}
+use Prim.Native.Nat.{ℕ, zero, suc, _+_, _*_, _/_, _≤_}
+use mathlib.Core.Path.{_≡_, refl, sym, _∙_, ap}
+use mathlib.Core.Logic.{_⊎_, inl, inr}
+use mathlib.Core.Bool.{Bool, true, false, not}
 use mathlib.Core.Option.{none, some}
 use mathlib.Core.List.{List, [], _∷_, _++_, map}
 use native.Mathlib.Omega.{arith}
 use lib.ListN.{length, replicate}
-use Rattle.lit.specs.Code.{literal, variable, isOdd, flipped}
+use Rattle.lit.specs.Code.{var, literal, variable, isOdd, flipped}
 use Rattle.circuit.specs.declared.Refusal.{Refusal}
-use Rattle.circuit.specs.declared.Refusal.the-variants.{Misshapen, Short, Over, Again, StateAgain, Undefined, Cycle}
+use Rattle.circuit.specs.declared.Refusal.the-variants.{Misshapen, Short, Over, Again, StateAgain, Undefined, Cycle, Deep}
 use Rattle.circuit.specs.declared.Answer.the-variants.{Renumbered, Refused}
 use Rattle.circuit.specs.declared.Image.the-variants.{Absent, Code}
-use Rattle.circuit.specs.Graph.{In, Distinct, Gate, defined, gateFor, negated}
+use Rattle.circuit.specs.Graph.{In, Distinct, Gate, outVar, Graph, defined, gateFor, Step, toFirst, toSecond, Reach, here, via, Loop, Grounded, Uses, itself, firstOf, secondOf, negated, Means, constant, source, negation}
+use Rattle.circuit.specs.Graph as graphs
 use Rattle.circuit.specs.Map.{entryImage, imageIn, store, codeOf}
-use Rattle.circuit.specs.Walk.{Pair, firstCode, nextCode, folded, already, settleAs, settleOn, settle, look, throughInputs, walk, stackRoom, walkAll}
+use Rattle.circuit.specs.Walk.{Net, Pair, Work, reached, stopped, firstCode, nextCode, folded, already, settleAs, settleOn, settle, look, throughInputs, walk, stackRoom, walkAll}
 use Rattle.circuit.specs.Circuit.{Circuit, codes, start, walked, renumber}
 use Rattle.circuit.specs.Ordered.{Ordered, imagesIn, orderedOf, sourcesOf, given, orderedGraph, InOrder, flipIf, bitOf, runGates, valuesOf, givenFrom}
 use Rattle.circuit.specs.Outcome.{Lent, lentOf, outcomeOf, gatesOf, tooBig, misshapen, tooShort, pairWords, pairsOf, conclusion, after, outcome, held}
-use Rattle.circuit.specs.Machine.{pathOf, stackWords}
+use Rattle.circuit.specs.Machine.{Frame, At, transfer, back, Machine, goes, ends, pathOf, stepLook, stepBack, stepAt, step, stackWords}
 use Rattle.circuit.specs.Lending.{Flags, plain, trimming, hashing, folding, lend, circuit, Example, success, refusal, earlyRefusal}
 use Rattle.circuit.proofs.Examples.{outputs, Computes}
 
@@ -315,6 +316,132 @@ members-pinned = (inr (inl refl), absent, (one, (two, (λ h. h, tt))), λ d. d .
     two (inl e) = omega arith
     two (inr h) = h
 
+-- graphs: the gate 6(2,5) over the sources 2, 4; the gates 2(4,1), 4(7,1), of which 6 is not defined; and the gates 2(4,1), 4(0,3), a cycle
+abbrev single : Graph
+single = record { sources = 2 ∷ 4 ∷ []; gates = gate 6 2 5 ∷ [] }
+
+abbrev chain : Graph
+chain = record { sources = []; gates = gate 2 4 1 ∷ gate 4 7 1 ∷ [] }
+
+abbrev cycle : Graph
+cycle = record { sources = []; gates = gate 2 4 1 ∷ gate 4 0 3 ∷ [] }
+
+-- in the first, the only steps lead from 3 to 1 and 2, and nothing else is reached
+only-steps : {u v : ℕ} → Step single u v → (u ≡ 3) × ((v ≡ 1) ⊎ (v ≡ 2))
+only-steps (toFirst g (inl e) p q) = (sym p ∙ ap outVar e, inl (sym q ∙ ap (λ (h : Gate). var (h .first)) e))
+only-steps (toFirst g (inr h) p q) = absurd h
+only-steps (toSecond g (inl e) p q) = (sym p ∙ ap outVar e, inr (sym q ∙ ap (λ (h : Gate). var (h .second)) e))
+only-steps (toSecond g (inr h) p q) = absurd h
+
+stays-put : {u v : ℕ} → Reach single u v → (u ≡ 3 → ⊥) → u ≡ v
+stays-put (here e) n = e
+stays-put (via s r) n = absurd (n (only-steps s .0))
+
+-- from 3 single comes to 1, to 2 and by no step to 3; from 1 not to 2
+pub reach-pinned :
+    Step single 3 1 × Step single 3 2 × (Step single 1 3 → ⊥) × Reach chain 1 3 × Reach single 3 3 × (Reach single 1 2 → ⊥)
+reach-pinned = (
+  toFirst (gate 6 2 5) (inl refl) refl refl,
+  toSecond (gate 6 2 5) (inl refl) refl refl,
+  λ s. omega (arith, only-steps s .0),
+  via (toFirst (gate 2 4 1) (inl refl) refl refl) (via (toFirst (gate 4 7 1) (inr (inl refl)) refl refl) (here refl)),
+  here refl,
+  λ r. omega (arith, stays-put r (λ e. omega arith)),
+)
+
+-- 1 reaches itself in the cycle, by way of 2
+looping : Loop cycle 1
+looping =
+    record {
+      next = 2;
+      step = toFirst (gate 2 4 1) (inl refl) refl refl;
+      back = via (toSecond (gate 4 0 3) (inr (inl refl)) refl refl) (here refl);
+    }
+
+-- 3 is grounded: what it reaches is defined and does not reach itself; 1 is not in the chain, whose end is not defined, nor in the cycle
+pub grounded-pinned : Grounded single 3 × (Grounded chain 1 → ⊥) × (Grounded cycle 1 → ⊥)
+grounded-pinned = (record { known = known; noLoop = no-loop }, λ g. undefined (g .known 3 (reach-pinned .3)), λ g. g .noLoop 1 (here refl) looping)
+  where
+    member : (u t : ℕ) → Reach single t u → (t ≡ 1) ⊎ (t ≡ 2) → Among u (defined single)
+    member u t r (inl e) = inr (inl (sym (stays-put r (λ k. omega (arith, e, k))) ∙ e))
+    member u t r (inr e) = inr (inr (inl (sym (stays-put r (λ k. omega (arith, e, k))) ∙ e)))
+
+    known : (u : ℕ) → Reach single 3 u → Among u (defined single)
+    known u (here e) = inr (inr (inr (inl (sym e))))
+    known u (via {t = t} s r) = member u t r (only-steps s .1)
+
+    turns : (u t : ℕ) → u ≡ 3 → (t ≡ 1) ⊎ (t ≡ 2) → Reach single t u → ⊥
+    turns u t e (inl k) r = omega (arith, e, k, stays-put r (λ h. omega (arith, k, h)))
+    turns u t e (inr k) r = omega (arith, e, k, stays-put r (λ h. omega (arith, k, h)))
+
+    no-loop : (u : ℕ) → Reach single 3 u → Loop single u → ⊥
+    no-loop u r l = turns u (l .next) (only-steps (l .step) .0) (only-steps (l .step) .1) (l .back)
+
+    undefined : Among 3 (defined chain) → ⊥
+    undefined (inl e) = omega arith
+    undefined (inr (inl e)) = omega arith
+    undefined (inr (inr (inl e))) = omega arith
+    undefined (inr (inr (inr h))) = h
+
+-- used from 3 in the chain: 3 itself, and 7 and 1, as the second gate has them; from 2 the literal 4 is not used in the first graph
+pub uses-pinned : Uses chain 3 3 × Uses chain 3 7 × Uses chain 3 1 × (Uses single 2 4 → ⊥)
+uses-pinned = (
+  itself refl,
+  firstOf (gate 4 7 1) (inr (inl refl)) to-second refl,
+  secondOf (gate 4 7 1) (inr (inl refl)) to-second refl,
+  unused,
+)
+  where
+    to-second : Reach chain 1 2
+    to-second = via (toFirst (gate 2 4 1) (inl refl) refl refl) (here refl)
+
+    apart : (g : Gate) → In g (single .gates) → Reach single 1 (outVar g) → ⊥
+    apart g (inl e) r = omega (arith, ap outVar e, stays-put r (λ k. omega arith))
+    apart g (inr h) r = h
+
+    unused : Uses single 2 4 → ⊥
+    unused (itself e) = omega arith
+    unused (firstOf g h r e) = apart g h r
+    unused (secondOf g h r e) = apart g h r
+
+-- where the source 2 has the bit true: the gates 4(2,3) and 6(3,2) are false, their negations true; and the constants have single bit each
+abbrev opposed : Graph
+opposed = record { sources = 2 ∷ []; gates = gate 4 2 3 ∷ gate 6 3 2 ∷ [] }
+
+abbrev Bit : ℕ → Bool → Type 0
+Bit c b = Means opposed (λ k. true) c b
+
+pub means-pinned :
+    Bit 0 false × Bit 1 true × Bit 2 true × Bit 3 false × Bit 4 false × Bit 6 false × Bit 7 true
+    × ((b : Bool) → Bit 0 b → b ≡ false) × ((b : Bool) → Bit 1 b → b ≡ true)
+unfolding flipped
+means-pinned = (
+  constant,
+  negation constant,
+  given,
+  negation given,
+  graphs.gate (gate 4 2 3) (inl refl) given (negation given),
+  graphs.gate (gate 6 3 2) (inr (inl refl)) (negation given) given,
+  negation (graphs.gate (gate 6 3 2) (inr (inl refl)) (negation given) given),
+  λ b m. constants m .0 refl,
+  λ b m. constants m .1 refl,
+)
+  where
+    given : Bit 2 true
+    given = source 0 (omega arith)
+
+    from-gate : (g : Gate) → In g (opposed .gates) → 2 ≤ g .output
+    from-gate g (inl e) = omega (arith, ap (λ (h : Gate). h .output) e)
+    from-gate g (inr (inl e)) = omega (arith, ap (λ (h : Gate). h .output) e)
+    from-gate g (inr (inr h)) = absurd h
+
+    constants : {c : ℕ} {b : Bool} → Bit c b → (c ≡ 0 → b ≡ false) × (c ≡ 1 → b ≡ true)
+    constants constant = (λ e. refl, λ e. absurd (omega arith))
+    constants (source zero h) = (λ e. absurd (omega arith), λ e. absurd (omega arith))
+    constants (source (suc k) h) = absurd (omega arith)
+    constants (graphs.gate g h m n) = (λ e. absurd (omega (arith, e, from-gate g h)), λ e. absurd (omega (arith, e, from-gate g h)))
+    constants (negation {c = c} m) = (λ e. ap not (constants m .1 (omega (arith, e))), λ e. ap not (constants m .0 (omega (arith, e))))
+
 -- the gate of a variable by either sign, what is defined, a negation; bits of gates over two sources; the room of the stack for
 -- three gates, and two words of it
 pub words-pinned :
@@ -329,6 +456,39 @@ pub words-pinned :
     × (pathOf (record { lit = 5; onSecond = true } ∷ record { lit = 3; onSecond = false } ∷ []) ≡ (3 ∷ 5 ∷ []))
 unfolding flipped valuesOf runGates bitOf flipIf isOdd
 words-pinned = (refl, refl, refl, refl, refl, refl, refl, refl, refl, refl, refl, refl)
+
+-- the machine, over the graph of one gate: entered and not left are literals with their first input under way, or their second
+abbrev frame : ℕ → Bool → Frame
+frame c onSecond = record { lit = c; onSecond = onSecond }
+
+abbrev plainNet : Net
+plainNet = record { graph = single; hash = false; fold = false }
+
+-- before the gate is made, and after
+abbrev begun : Work
+begun = record { images = 0 ∷ 2 ∷ 4 ∷ gone ∷ []; made = [] }
+
+abbrev done : Work
+done = record { images = 0 ∷ 2 ∷ 4 ∷ 6 ∷ []; made = pair 5 2 ∷ [] }
+
+abbrev machine : List Frame → At → Work → Machine
+machine fs at w = record { frames = fs; at = at; work = w }
+
+pub machine-pinned :
+    -- 7 is looked at below 3: its gate is entered; below two entries, which is all the room, it is not
+    (step plainNet (machine (frame 3 true ∷ []) (transfer 7) begun) ≡ goes (machine (frame 7 false ∷ frame 3 true ∷ []) (transfer 2) begun))
+    × (step plainNet (machine (frame 3 true ∷ frame 8 false ∷ []) (transfer 7) begun) ≡ ends (stopped (Deep (literal 7))))
+    -- 5 has its image, 9 no gate; 7 is the newer of two entries, which is the middle one
+    × (step plainNet (machine (frame 7 true ∷ []) (transfer 5) begun) ≡ goes (machine (frame 7 true ∷ []) back begun))
+    × (step plainNet (machine (frame 7 true ∷ []) (transfer 9) begun) ≡ ends (stopped (Undefined (literal 9))))
+    × (step plainNet (machine (frame 7 false ∷ frame 3 true ∷ []) (transfer 7) begun) ≡ ends (stopped (Cycle (literal 7))))
+    -- back from the first input of 7, from its second, from a literal without a gate, and from all
+    × (step plainNet (machine (frame 7 false ∷ frame 3 true ∷ []) back begun) ≡ goes (machine (frame 7 true ∷ frame 3 true ∷ []) (transfer 5) begun))
+    × (step plainNet (machine (frame 7 true ∷ frame 3 true ∷ []) back begun) ≡ goes (machine (frame 3 true ∷ []) back done))
+    × (step plainNet (machine (frame 9 true ∷ []) back begun) ≡ ends (stopped (Undefined (literal 9))))
+    × (step plainNet (machine [] back done) ≡ ends (reached done))
+unfolding step stepAt stepBack stepLook look imageIn entryImage flipped settle settleOn settleAs already nextCode firstCode folded codeOf store
+machine-pinned = (refl, refl, refl, refl, refl, refl, refl, refl, refl)
 
 pub givens-pinned : (given : ℕ → Bool) → givenFrom given 3 2 ≡ given 3 ∷ given 4 ∷ []
 unfolding givenFrom
