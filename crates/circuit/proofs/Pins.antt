@@ -404,31 +404,41 @@ uses-pinned = (
     unused (firstOf g h r e) = apart g h r
     unused (secondOf g h r e) = apart g h r
 
--- where the source 2 has the bit true: the gates 4(2,3) and 6(3,2) are false, their negations true; and the constants have single bit each
+-- where the source 2 has the bit true and the source 9 the bit false: the gates 4(2,3) and 6(3,2) are false; the negation of a literal has the other bit;
+-- and the constants have one bit each
 abbrev opposed : Graph
-opposed = record { sources = 2 ∷ []; gates = gate 4 2 3 ∷ gate 6 3 2 ∷ [] }
+opposed = record { sources = 2 ∷ 9 ∷ []; gates = gate 4 2 3 ∷ gate 6 3 2 ∷ [] }
+
+abbrev bits : ℕ → Bool
+bits zero = true
+bits (suc k) = false
 
 abbrev Bit : ℕ → Bool → Type 0
-Bit c b = Means opposed (λ k. true) c b
+Bit c b = Means opposed bits c b
 
 pub means-pinned :
-    Bit 0 false × Bit 1 true × Bit 2 true × Bit 3 false × Bit 4 false × Bit 6 false × Bit 7 true
+    Bit 0 false × Bit 1 true × Bit 2 true × Bit 9 false × Bit 3 false × Bit 8 true × Bit 4 false × Bit 6 false × Bit 7 true
     × ((b : Bool) → Bit 0 b → b ≡ false) × ((b : Bool) → Bit 1 b → b ≡ true)
 unfolding flipped
 means-pinned = (
   constant,
   negation constant,
-  given,
-  negation given,
-  graphs.gate (gate 4 2 3) (inl refl) given (negation given),
-  graphs.gate (gate 6 3 2) (inr (inl refl)) (negation given) given,
-  negation (graphs.gate (gate 6 3 2) (inr (inl refl)) (negation given) given),
+  set,
+  unset,
+  negation set,
+  negation unset,
+  graphs.gate (gate 4 2 3) (inl refl) set (negation set),
+  graphs.gate (gate 6 3 2) (inr (inl refl)) (negation set) set,
+  negation (graphs.gate (gate 6 3 2) (inr (inl refl)) (negation set) set),
   λ b m. constants m .0 refl,
   λ b m. constants m .1 refl,
 )
   where
-    given : Bit 2 true
-    given = source 0 (omega arith)
+    set : Bit 2 true
+    set = source 0 (omega arith)
+
+    unset : Bit 9 false
+    unset = source 1 (omega arith)
 
     from-gate : (g : Gate) → In g (opposed .gates) → 2 ≤ g .output
     from-gate g (inl e) = omega (arith, ap (λ (h : Gate). h .output) e)
@@ -438,9 +448,16 @@ means-pinned = (
     constants : {c : ℕ} {b : Bool} → Bit c b → (c ≡ 0 → b ≡ false) × (c ≡ 1 → b ≡ true)
     constants constant = (λ e. refl, λ e. absurd (omega arith))
     constants (source zero h) = (λ e. absurd (omega arith), λ e. absurd (omega arith))
-    constants (source (suc k) h) = absurd (omega arith)
+    constants (source (suc zero) h) = (λ e. absurd (omega arith), λ e. absurd (omega arith))
+    constants (source (suc (suc k)) h) = absurd (omega arith)
     constants (graphs.gate g h m n) = (λ e. absurd (omega (arith, e, from-gate g h)), λ e. absurd (omega (arith, e, from-gate g h)))
     constants (negation {c = c} m) = (λ e. ap not (constants m .1 (omega (arith, e))), λ e. ap not (constants m .0 (omega (arith, e))))
+
+-- the folding rows by themselves: either is 0; the larger is 1, or both are equal; the smaller is 1; none of these
+pub folded-pinned :
+    (folded 0 3 ≡ some 0) × (folded 3 0 ≡ some 0) × (folded 1 3 ≡ some 3) × (folded 3 3 ≡ some 3) × (folded 3 1 ≡ some 3) × (folded 4 3 ≡ none)
+unfolding folded
+folded-pinned = (refl, refl, refl, refl, refl, refl)
 
 -- the gate of a variable by either sign, what is defined, a negation; bits of gates over two sources; the room of the stack for
 -- three gates, and two words of it
