@@ -1,9 +1,10 @@
 -- Whole sheets and their whole texts by example, worked out from document 01, and the circuit on a sheet field by field: each is one on which a neighbouring
 -- definition answers otherwise. By computation. Assumes nothing.
-use Prim.Native.Nat.{ℕ}
+use Prim.Native.Nat.{ℕ, zero, suc}
 use mathlib.Core.Path.{_≡_, refl}
 use mathlib.Core.Bool.{Bool, true, false}
 use mathlib.Core.List.{List, [], _∷_, _++_}
+use native.Mathlib.Omega.{arith}
 use lib.ListN.{length, replicate}
 use Rattle.token.specs.Format.{digitsOf}
 use Rattle.token.specs.Answer.{binaryAt, goOnAt}
@@ -20,7 +21,8 @@ use Rattle.sheet_lines.specs.Text.{beside, orderedText, refusedText}
 use Rattle.sheet_read.specs.Sheet.{numbersAt, rootCount, tooLarge, codeCount, listsRead, sheetRead, readOf}
 use Rattle.sheet.specs.Circuit.{statesOf, nextsOf, recordOn, circuitOn}
 use Rattle.sheet.specs.Report.{textOf, reportOf}
-use Rattle.sheet.specs.Promise.{circuitIn}
+use Rattle.sheet_read.specs.Promise.{Taken}
+use Rattle.sheet.specs.Promise.{Words, circuitIn, Shaped, Roomy}
 
 -- 1. Document 01's sheet, and its text.
 
@@ -198,3 +200,26 @@ pub circuit-pinned :
     × (statesOf (30 ∷ []) ≡ []) × (nextsOf (30 ∷ []) ≡ []) × (statesOf [] ≡ []) × (nextsOf [] ≡ [])
 unfolding circuitOn
 circuit-pinned = (refl, refl, refl, refl, refl, refl, refl, refl, refl, refl, refl, refl, refl, refl, refl, refl, refl, refl, refl, refl, refl, refl, refl, refl, refl)
+
+-- 6. The words of the library's order: lists as long as a header says, room for the largest circuit on a sheet, and words of 32 bits.
+
+pub shapes-pinned : (is ss ns gs rs : List ℕ) → Shaped (header 7) is ss ns gs rs
+    → Taken (header 7) × (length is ≡ 3) × (length ss ≡ 2) × (length ns ≡ 2) × (length gs ≡ 12) × (length rs ≡ 10)
+unfolding rootCount
+shapes-pinned is ss ns gs rs s = (s .taken, s .inputs, s .states, s .nexts, s .gates, s .roots)
+
+pub shapes-taken : Shaped (header 7) (replicate 3 5) (replicate 2 6) (replicate 2 7) (replicate 12 8) (replicate 10 9)
+unfolding tooLarge rootCount
+shapes-taken = record { taken = record { ten = refl; within = refl }; inputs = refl; states = refl; nexts = refl; gates = refl; roots = refl }
+
+pub rooms-pinned : (m ns rs gs ws : List ℕ) → Roomy m ns rs gs ws
+    → (length m ≡ 1024) × (length ns ≡ 1023) × (length rs ≡ 1023) × (length gs ≡ 2046) × (length ws ≡ 6141)
+rooms-pinned m ns rs gs ws r = (r .map, r .nextImages, r .rootImages, r .gatesOut, r .scratch)
+
+pub words-pinned : Words (4294967295 ∷ 7 ∷ []) × (Words (7 ∷ 4294967296 ∷ []) → ⊥)
+words-pinned = (fit, λ w. omega (arith, w 1 (omega arith)))
+  where
+    fit : Words (4294967295 ∷ 7 ∷ [])
+    fit zero h = omega arith
+    fit (suc zero) h = omega arith
+    fit (suc (suc i)) h = absurd (omega arith)

@@ -5,6 +5,7 @@ use mathlib.Core.Path.{_≡_, refl}
 use mathlib.Core.Bool.{true, false}
 use mathlib.Core.Option.{none, some}
 use mathlib.Core.List.{List, [], _∷_, _++_}
+use native.Mathlib.Omega.{arith}
 use lib.ListN.{length, replicate}
 use Rattle.token.specs.declared.Reason.the-variants.{Cut, TooLong}
 use Rattle.token.specs.Answer.{binaryAt, goOnAt}
@@ -14,7 +15,7 @@ use Rattle.sheet_read.specs.declared.Reading.{Reading}
 use Rattle.sheet_read.specs.declared.Reading.the-variants.{Whole, Faulty}
 use Rattle.sheet_read.specs.declared.Offender.the-variants.{Nothing, Over}
 use Rattle.sheet_read.specs.Sheet.{Run, numbersAt, topOf, inputCount, latchCount, gateCount, rootCounts, rootCount, flagsOf, tooLarge, codeCount, announced, Read, listsRead, sheetRead, readOf}
-use Rattle.sheet_read.specs.Promise.{Fills, Reads, ReadsCodes, offender}
+use Rattle.sheet_read.specs.Promise.{Fills, Reads, ReadsCodes, offender, Small, Taken}
 
 -- numbers that were read, and how they ended; a sheet that was read
 abbrev run : List ℕ → Ended → Run
@@ -95,6 +96,9 @@ pub readings-pinned :
     -- flags 8 are 2, and no code is read, also where one is cut
     × (readOf (sheet 8 (0x12 ∷ 0x03 ∷ [])) ≡ read (Faulty 2 0) (header 8) [])
     × (readOf (sheet 8 (0x12 ∷ 0x80 ∷ [])) ≡ read (Faulty 2 0) (header 8) [])
+    -- the flags are the tenth number, whichever byte they are: flags 8 in the eleventh byte; and a tenth byte 8, which counts justice literals that are missed
+    × (readOf (0x8b ∷ 0x00 ∷ (replicate 8 0x00 ++ (0x08 ∷ []))) ≡ read (Faulty 2 0) (11 ∷ (replicate 8 0 ++ (8 ∷ []))) [])
+    × (readOf (0x8b ∷ 0x00 ∷ (replicate 7 0x00 ++ (0x08 ∷ 0x00 ∷ []))) ≡ read (Faulty 15 11) (11 ∷ (replicate 7 0 ++ (8 ∷ 0 ∷ []))) [])
     -- one byte left, and two
     × (readOf (sheet 5 (0x12 ∷ 0x03 ∷ 0x00 ∷ [])) ≡ read (Faulty 2 0) (header 5) (codes (18 ∷ 3 ∷ [])))
     × (readOf (sheet 5 (0x12 ∷ 0x03 ∷ 0x00 ∷ 0x80 ∷ [])) ≡ read (Faulty 2 0) (header 5) (codes (18 ∷ 3 ∷ [])))
@@ -108,7 +112,7 @@ pub readings-pinned :
     × (readOf (0x8b ∷ 0x00 ∷ 0x03 ∷ 0x02 ∷ 0x85 ∷ []) ≡ read (Faulty 15 4) (11 ∷ 3 ∷ 2 ∷ []) [])
     × (readOf (0x0b ∷ 0x03 ∷ (replicate 9 0xff ++ replicate 9 0x00)) ≡ read (Faulty 16 2) (11 ∷ 3 ∷ []) [])
 unfolding readOf sheetRead listsRead numbersAt binaryAt goOnAt tooLarge rootCount codeCount
-readings-pinned = (refl, refl, refl, refl, refl, refl, refl, refl, refl, refl, refl, refl, refl, refl)
+readings-pinned = (refl, refl, refl, refl, refl, refl, refl, refl, refl, refl, refl, refl, refl, refl, refl, refl)
 
 -- a header of zeros, but for one number of two bytes at the place of V (0) to justice literals (8); no codes
 abbrev alone : ℕ → ℕ → ℕ → ℕ → List ℕ
@@ -164,3 +168,28 @@ pub words-pinned :
     × (_≡_ {A = Type 0} (ReadsCodes (read Whole (1 ∷ 2 ∷ []) (3 ∷ [])) s (4 ∷ 5 ∷ []) codes) ((s ≡ Whole) × (codes ≡ 3 ∷ 5 ∷ [])))
     × (offender none ≡ Nothing) × (offender (some 7) ≡ Over 7)
 words-pinned r s list header codes = (refl, refl, refl, refl, refl)
+
+-- headers that pass the first nine sizes, and those that are taken: ten numbers; nine and eleven are not. With flags over their limit and R over its own the
+-- nine pass, and the header is not taken; the eighth root count is one of the nine
+pub headers-pinned :
+    Small (1023 ∷ 0 ∷ 0 ∷ 0 ∷ 1023 ∷ 0 ∷ 0 ∷ 0 ∷ 1 ∷ 1024 ∷ [])
+    × (Small (1023 ∷ 0 ∷ 0 ∷ 0 ∷ 1023 ∷ 0 ∷ 0 ∷ 0 ∷ 1 ∷ []) → ⊥)
+    × (Small (1023 ∷ 0 ∷ 0 ∷ 0 ∷ 1023 ∷ 0 ∷ 0 ∷ 0 ∷ 1 ∷ 0 ∷ 0 ∷ []) → ⊥)
+    × (Small (1024 ∷ 0 ∷ 0 ∷ 0 ∷ 0 ∷ 0 ∷ 0 ∷ 0 ∷ 0 ∷ 0 ∷ []) → ⊥)
+    × (Small (0 ∷ 0 ∷ 0 ∷ 0 ∷ 0 ∷ 0 ∷ 0 ∷ 0 ∷ 1024 ∷ 0 ∷ []) → ⊥)
+    × Taken (1023 ∷ 0 ∷ 0 ∷ 0 ∷ 1022 ∷ 0 ∷ 0 ∷ 0 ∷ 1 ∷ 1024 ∷ [])
+    × (Taken (1023 ∷ 0 ∷ 0 ∷ 0 ∷ 1022 ∷ 0 ∷ 0 ∷ 0 ∷ 1 ∷ []) → ⊥)
+    × (Taken (1023 ∷ 0 ∷ 0 ∷ 0 ∷ 1022 ∷ 0 ∷ 0 ∷ 0 ∷ 1 ∷ 0 ∷ 0 ∷ []) → ⊥)
+    × (Taken (1023 ∷ 0 ∷ 0 ∷ 0 ∷ 1023 ∷ 0 ∷ 0 ∷ 0 ∷ 1 ∷ 0 ∷ []) → ⊥)
+unfolding tooLarge rootCount
+headers-pinned = (
+  record { ten = refl; nine = refl },
+  λ s. omega (arith, s .ten),
+  λ s. omega (arith, s .ten),
+  λ s. let z : _≡_ {A = ℕ} 0 1 = cc (s .nine) in omega arith,
+  λ s. let z : _≡_ {A = ℕ} 0 1 = cc (s .nine) in omega arith,
+  record { ten = refl; within = refl },
+  λ s. omega (arith, s .ten),
+  λ s. omega (arith, s .ten),
+  λ s. let z : _≡_ {A = ℕ} 0 1 = cc (s .within) in omega arith,
+)
