@@ -5,9 +5,12 @@ pub use Rattle.sheet.proofs.Pins.{told, settings-pinned, kinds-pinned, 
 use Prim.Native.Nat.{ℕ, _≤_, _<_}
 use mathlib.Core.Path.{_≡_, sym, _∙_}
 use mathlib.Core.List.{List}
+use native.Mathlib.Omega.{arith}
 use lib.ListN.{length, take}
 use denote.Ref.{now}
 use Rattle.promise.specs.Determined.{DeterminesCells}
+use Rattle.text.specs.Put.{putAll}
+use Rattle.text.proofs.Theorems.{front-is-text}
 use Rattle.circuit.specs.Circuit.{renumber}
 use Rattle.circuit.specs.Outcome.{lentOf, conclusion}
 use Rattle.circuit.proofs.Outcome.{conclusion-of}
@@ -40,6 +43,10 @@ enough = reports.enough
 -- every report has room in 131,072 bytes
 pub fits : (s : List ℕ) → length (reportOf s) ≤ 131072
 fits = room.report-fits
+
+-- so of as many lent bytes the first, as many as the report has, are the report: nothing is cut
+pub whole : (s out : List ℕ) → 131072 ≤ length out → take (length (reportOf s)) (putAll out 0 (reportOf s)) ≡ reportOf s
+whole s out room = front-is-text out (reportOf s) (omega (arith, fits s))
 
 -- 3. Every report ends with a newline.
 
