@@ -1,11 +1,16 @@
--- What follows of the C entries' contracts: each allows one outcome. Calls of the entry for renumbering by example, with every word, stand in Pins. Assumes nothing.
+-- What follows of the C entries' contracts: each allows one outcome, and what C sees of it is all that is demanded. Calls of the entry for renumbering by example, with every word, stand in Pins. Assumes nothing.
 pub use Rattle.capi.proofs.Pins.{seen-pinned, flags-told, circuits-shown, settings-pinned, refusals-pinned, rooms-pinned, words-pinned}
-use Prim.Native.Nat.{ℕ}
-use mathlib.Core.Path.{sym, _∙_, ap}
+use Prim.Native.Nat.{ℕ, _≤_}
+use mathlib.Core.Path.{_≡_, sym, _∙_, ap}
 use mathlib.Core.List.{List}
+use lib.ListN.{length}
+use borrow.Author.Tests.{le-ltb, eq-eqb}
 use denote.Ref.{now}
 use Rattle.promise.specs.Determined.{DeterminesCells}
-use Rattle.capi.specs.Renumber.{Seen}
+use Rattle.circuit.specs.Outcome.{Lent, Outcome, circuitOf, outcome}
+use Rattle.circuit.specs.Demands.{Demands}
+use Rattle.circuit.proofs.Demands.{demands}
+use Rattle.capi.specs.Renumber.{Seen, misgiven, asSeen, renumberSeen}
 use Rattle.capi.proofs.imdagluz_delta.Kinds as delta-kinds
 use Rattle.capi.proofs.imdagluz_delta.Reads as delta-promise
 use Rattle.capi.proofs.imdagluz_renumber.Kinds as renumber-kinds
@@ -21,3 +26,10 @@ pub one-imdagluz-renumber :
     (λ κs e. (now (e .1 .1 .1 .1 .1 .1 .1 .1 .0), now (e .1 .1 .1 .1 .1 .1 .1 .1 .1 .0), now (e .1 .1 .1 .1 .1 .1 .1 .1 .1 .1 .0), now (e .1 .1 .1 .1 .1 .1 .1 .1 .1 .1 .1 .0), now (e .1 .1 .1 .1 .1 .1 .1 .1 .1 .1 .1 .1 .0), now (e .1 .1 .1 .1 .1 .1 .1 .1 .1 .1 .1 .1 .1 .0)))
 one-imdagluz-renumber κs a x y e f p q =
     (ap (λ (s : Seen). s .number) (p ∙ sym q), ap (λ (s : Seen). (s .map, s .nextImages, s .rootImages, s .gatesOut, s .scratch, s .words)) (p ∙ sym q))
+
+-- given room for the answer, five counts and flags that are flags, what C sees is an outcome that is all the customer demands
+pub seen-demands : (counts : List ℕ) (flags : ℕ) (l : Lent) (words : List ℕ) → 3 ≤ length words → length counts ≡ 5 → flags ≤ 7
+    → (o : Outcome) × Demands l (circuitOf l) o × (renumberSeen counts flags l words ≡ asSeen o words)
+unfolding renumberSeen misgiven
+seen-demands counts flags l words room five few =
+    (outcome l, demands l, rw (le-ltb (length words) 3 room, eq-eqb (length counts) 5 five, le-ltb 7 flags few))
