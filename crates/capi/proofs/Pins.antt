@@ -215,9 +215,10 @@ pub words-pinned :
     (misgiven counts 7 ≡ false) × (misgiven counts 8 ≡ true) × (misgiven (1 ∷ 0 ∷ 2 ∷ 0 ∷ []) 7 ≡ true) × (misgiven (1 ∷ 0 ∷ 2 ∷ 0 ∷ 1 ∷ 0 ∷ []) 7 ≡ true)
     × (firstNumber counts 7 (26 ∷ 27 ∷ 28 ∷ []) ≡ 0) × (firstWords counts 7 (26 ∷ 27 ∷ 28 ∷ []) ≡ 26 ∷ 27 ∷ 28 ∷ [])
     × (firstNumber counts 8 (26 ∷ 27 ∷ 28 ∷ 29 ∷ []) ≡ 2) × (firstWords counts 8 (26 ∷ 27 ∷ 28 ∷ 29 ∷ []) ≡ 0 ∷ 0 ∷ 0 ∷ 29 ∷ [])
+    × (firstNumber counts 8 (26 ∷ 27 ∷ 28 ∷ []) ≡ 2) × (firstWords counts 8 (26 ∷ 27 ∷ 28 ∷ []) ≡ 0 ∷ 0 ∷ 0 ∷ [])
     × (firstNumber counts 8 (26 ∷ 27 ∷ []) ≡ 3) × (firstWords counts 8 (26 ∷ 27 ∷ []) ≡ 26 ∷ 27 ∷ [])
     × (answerNumber (Renumbered (record { made = 5; top = variable 10 })) ≡ 0) × (answerWords (Renumbered (record { made = 5; top = variable 10 })) ≡ 0 ∷ 5 ∷ 10 ∷ [])
     × (answerNumber (Refused TooBig) ≡ 1) × (answerWords (Refused TooBig) ≡ 0 ∷ 0 ∷ 0 ∷ [])
     × (answerNumber (Refused (Deep (literal 18))) ≡ 9) × (answerWords (Refused (Deep (literal 18))) ≡ 18 ∷ 0 ∷ 0 ∷ [])
 unfolding misgiven firstNumber firstWords
-words-pinned = (refl, refl, refl, refl, refl, refl, refl, refl, refl, refl, refl, refl, refl, refl, refl, refl)
+words-pinned = (refl, refl, refl, refl, refl, refl, refl, refl, refl, refl, refl, refl, refl, refl, refl, refl, refl, refl)
