@@ -23,7 +23,8 @@ same-length : tie.Need-same-length
 same-length c = search needs
 
 -- bytes that begin with a text, whole, and its length
-front : (text bytes : List ℕ) (r : ℕ) → take (length text) bytes ≡ text → length text ≤ length bytes → r ≡ length text → (take r bytes ≡ text) × Counts r bytes
+front : (text bytes : List ℕ) (r : ℕ) → take (length text) bytes ≡ text → length text ≤ length bytes → r ≡ length text
+    → (take r bytes ≡ text) × Counts r bytes
 front text bytes r is room counted =
     let begins : take r bytes ≡ text = ap (λ (k : ℕ). take k bytes) counted ∙ is in
     (begins, (omega arith, counted ∙ sym (ap length begins)))
