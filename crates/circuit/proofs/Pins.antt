@@ -16,7 +16,7 @@ use Rattle.circuit.specs.declared.Image.the-variants.{Absent, Code}
 use Rattle.circuit.specs.Graph.{In, Distinct, Gate, outVar, Graph, defined, gateFor, Step, toFirst, toSecond, Reach, here, via, Loop, Grounded, Uses, itself, firstOf, secondOf, negated, Means, constant, source, negation}
 use Rattle.circuit.specs.Graph as graphs
 use Rattle.circuit.specs.Map.{entryImage, imageIn, store, codeOf}
-use Rattle.circuit.specs.Walk.{Net, Pair, Work, reached, stopped, firstCode, nextCode, folded, already, settleAs, settleOn, settle, look, throughInputs, walk, stackRoom, walkAll}
+use Rattle.circuit.specs.Walk.{Net, Pair, Work, reached, stopped, firstCode, nextCode, folded, madeBefore, already, settleAs, settleOn, settle, look, throughInputs, walk, stackRoom, walkAll}
 use Rattle.circuit.specs.Circuit.{Circuit, codes, start, walked, renumber}
 use Rattle.circuit.specs.Ordered.{Ordered, imagesIn, orderedOf, sourcesOf, given, orderedGraph, InOrder, flipIf, bitOf, runGates, valuesOf, givenFrom}
 use Rattle.circuit.specs.Outcome.{Lent, lentOf, outcomeOf, gatesOf, tooBig, misshapen, tooShort, pairWords, pairsOf, conclusion, after, outcome, held}
@@ -458,6 +458,12 @@ pub folded-pinned :
     (folded 0 3 ≡ some 0) × (folded 3 0 ≡ some 0) × (folded 1 3 ≡ some 3) × (folded 3 3 ≡ some 3) × (folded 3 1 ≡ some 3) × (folded 4 3 ≡ none)
 unfolding folded
 folded-pinned = (refl, refl, refl, refl, refl, refl)
+
+-- the search among the gates made, the first of which has the code 6: both inputs count, and of two alike the last is found
+pub made-pinned :
+    (madeBefore (pair 4 2 ∷ pair 5 2 ∷ pair 4 3 ∷ []) 6 4 3 ≡ some 10) × (madeBefore (pair 4 2 ∷ pair 5 2 ∷ pair 4 3 ∷ []) 6 5 3 ≡ none)
+    × (madeBefore (pair 4 2 ∷ pair 5 2 ∷ pair 4 2 ∷ []) 6 4 2 ≡ some 10)
+made-pinned = (refl, refl, refl)
 
 -- the gate of a variable by either sign, what is defined, a negation; bits of gates over two sources; the room of the stack for
 -- three gates, and two words of it
