@@ -19,7 +19,7 @@ use Rattle.sheet_lines.proofs.Pins.{bytes}
 use Rattle.sheet_lines.specs.Lines.{refusedLine, orderedLine, gateLine, imageLine}
 use Rattle.sheet_lines.specs.Text.{beside, orderedText, refusedText}
 use Rattle.sheet_read.specs.Sheet.{numbersAt, rootCount, tooLarge, codeCount, listsRead, sheetRead, readOf}
-use Rattle.sheet.specs.Circuit.{statesOf, nextsOf, recordOn, circuitOn}
+use Rattle.sheet.specs.Circuit.{statesOf, nextsOf, inputCodes, gateWords, latchWords, rootCodes, recordOn, circuitOn}
 use Rattle.sheet.specs.Report.{textOf, reportOf}
 use Rattle.sheet_read.specs.Promise.{Taken}
 use Rattle.sheet.specs.Promise.{Words, circuitIn, Shaped, Roomy}
@@ -194,12 +194,17 @@ pub circuit-pinned :
     × (circuitIn (header 6) (4 ∷ 2 ∷ 7 ∷ []) (30 ∷ 32 ∷ []) (19 ∷ 22 ∷ []) (20 ∷ 12 ∷ 14 ∷ 13 ∷ 5 ∷ 8 ∷ 16 ∷ 21 ∷ 1 ∷ 18 ∷ 10 ∷ 9 ∷ [])
     (41 ∷ 42 ∷ 43 ∷ 44 ∷ 45 ∷ 46 ∷ 47 ∷ 48 ∷ 49 ∷ 50 ∷ [])
     ≡ circuit false true true)
+    -- the words of each list
+    × (inputCodes (header 0) words ≡ 4 ∷ 2 ∷ 7 ∷ [])
+    × (gateWords (header 0) words ≡ 20 ∷ 12 ∷ 14 ∷ 13 ∷ 5 ∷ 8 ∷ 16 ∷ 21 ∷ 1 ∷ 18 ∷ 10 ∷ 9 ∷ [])
+    × (latchWords (header 0) words ≡ 30 ∷ 19 ∷ 32 ∷ 22 ∷ [])
+    × (rootCodes (header 0) words ≡ 41 ∷ 42 ∷ 43 ∷ 44 ∷ 45 ∷ 46 ∷ 47 ∷ 48 ∷ 49 ∷ 50 ∷ [])
     -- latches in turn; a word left over is none
     × (statesOf (30 ∷ 19 ∷ 32 ∷ 22 ∷ []) ≡ 30 ∷ 32 ∷ []) × (nextsOf (30 ∷ 19 ∷ 32 ∷ 22 ∷ []) ≡ 19 ∷ 22 ∷ [])
     × (statesOf (30 ∷ 19 ∷ 32 ∷ []) ≡ 30 ∷ []) × (nextsOf (30 ∷ 19 ∷ 32 ∷ []) ≡ 19 ∷ [])
     × (statesOf (30 ∷ []) ≡ []) × (nextsOf (30 ∷ []) ≡ []) × (statesOf [] ≡ []) × (nextsOf [] ≡ [])
 unfolding circuitOn
-circuit-pinned = (refl, refl, refl, refl, refl, refl, refl, refl, refl, refl, refl, refl, refl, refl, refl, refl, refl, refl, refl, refl, refl, refl, refl, refl, refl)
+circuit-pinned = (refl, refl, refl, refl, refl, refl, refl, refl, refl, refl, refl, refl, refl, refl, refl, refl, refl, refl, refl, refl, refl, refl, refl, refl, refl, refl, refl, refl, refl)
 
 -- 6. The words of the library's order: lists as long as a header says, room for the largest circuit on a sheet, and words of 32 bits.
 
