@@ -18,8 +18,8 @@ use Rattle.circuit.specs.Graph as graphs
 use Rattle.circuit.specs.Map.{entryImage, imageIn, store, codeOf}
 use Rattle.circuit.specs.Walk.{Net, Pair, Work, reached, stopped, firstCode, nextCode, folded, madeBefore, already, settleAs, settleOn, settle, look, throughInputs, walk, stackRoom, walkAll}
 use Rattle.circuit.specs.Circuit.{Circuit, codes, start, walked, renumber}
-use Rattle.circuit.specs.Ordered.{Ordered, imagesIn, orderedOf, sourcesOf, given, orderedGraph, InOrder, flipIf, bitOf, runGates, valuesOf, givenFrom}
-use Rattle.circuit.specs.Outcome.{Lent, lentOf, outcomeOf, gatesOf, tooBig, misshapen, tooShort, pairWords, pairsOf, conclusion, after, outcome, held}
+use Rattle.circuit.specs.Ordered.{Ordered, imagesIn, orderedOf, sourcesOf, given, orderedGraph, noPair, InOrder, flipIf, bitOf, runGates, valuesOf, givenFrom}
+use Rattle.circuit.specs.Outcome.{Lent, lentOf, outcomeOf, gatesOf, tooBig, misshapen, tooShort, pairWords, pairsOf, cleared, conclusion, after, outcome, held}
 use Rattle.circuit.specs.Machine.{Frame, At, transfer, back, Machine, goes, ends, pathOf, stepLook, stepBack, stepAt, step, stackWords}
 use Rattle.circuit.specs.Lending.{Flags, plain, trimming, hashing, folding, lend, circuit, Example, success, refusal, earlyRefusal}
 use Rattle.circuit.proofs.Examples.{outputs, Computes}
@@ -217,6 +217,19 @@ pub limits-pinned : (cs over : List ℕ) (gs overs : List Gate) → length cs �
 unfolding tooBig
 limits-pinned cs over gs overs c o g p = (refl, rw o, rw o, rw p, rw o, rw (c, g))
 
+-- L is the length of the list of states, whether or not there are as many next states. With the latch state 2 and no next state: no next image lent is too few
+-- and one is enough; of two a refusal clears one; and of two one belongs to the ordered circuit
+abbrev latched : List ℕ → Lent
+latched nextImages =
+    lentOf (record { top = variable 0; counts = []; trim = false; hash = false; fold = false }) [] (2 ∷ []) [] [] [] (88 ∷ []) nextImages [] [] (replicate 3 88)
+
+pub latches-pinned :
+    (tooShort (latched []) (sized 0 [] (2 ∷ []) [] []) ≡ true) × (tooShort (latched (88 ∷ [])) (sized 0 [] (2 ∷ []) [] []) ≡ false)
+    × (cleared (latched (88 ∷ 89 ∷ [])) (sized 0 [] (2 ∷ []) [] []) Short .nextImages ≡ 0 ∷ 89 ∷ [])
+    × (held (latched []) (record { made = 0; top = variable 0 }) (outcomeOf (Refused Short) [] (88 ∷ 89 ∷ []) [] [] []) .nexts ≡ 88 ∷ [])
+unfolding tooShort held
+latches-pinned = (refl, refl, refl, refl)
+
 -- what is lent and what comes of it, field by field; flat gates, with none, one or two words left over; pairs of words
 pub fields-pinned :
     (lentOf (record { top = variable 9; counts = 8 ∷ []; trim = true; hash = false; fold = false }) (1 ∷ []) (2 ∷ []) (3 ∷ []) (4 ∷ []) (5 ∷ []) (6 ∷ []) (7 ∷ []) (8 ∷ []) (9 ∷ []) (10 ∷ [])
@@ -263,7 +276,7 @@ D =
 -- it is that ordered circuit, whose sources are 2, 4, 6 and whose gates are 8(4,2), 10(9,6), 12(10,2)
 pub ordered-pinned :
     (held ordered (record { made = 3; top = variable 6 }) (outcome ordered) ≡ D)
-    × (held ordered (record { made = 1; top = variable 6 }) (outcome ordered) .gates ≡ pair 4 2 ∷ [])
+    × (held ordered (record { made = 2; top = variable 6 }) (outcome ordered) .gates ≡ pair 4 2 ∷ pair 9 6 ∷ [])
     × (given D true false false
     ≡ record {
       top = 6;
@@ -281,8 +294,11 @@ pub ordered-pinned :
     × (given D false false true .trim ≡ false) × (given D false false true .hash ≡ false) × (given D false false true .fold ≡ true)
     × (orderedGraph D ≡ record { sources = 2 ∷ 4 ∷ 6 ∷ []; gates = gate 8 4 2 ∷ gate 10 9 6 ∷ gate 12 10 2 ∷ [] })
     × (sourcesOf D ≡ 3)
+    -- three inputs and a latch
+    × (given (record { inputs = 3; nexts = 0 ∷ []; gates = []; counts = []; roots = [] }) false false false .inputs ≡ (2 ∷ 4 ∷ 6 ∷ []))
+    × (given (record { inputs = 3; nexts = 0 ∷ []; gates = []; counts = []; roots = [] }) false false false .states ≡ (8 ∷ []))
 unfolding outcome conclusion tooBig misshapen tooShort after renumber codes walkAll walked start store flipped walk look imageIn entryImage throughInputs settle settleOn settleAs already nextCode firstCode folded codeOf orderedOf imagesIn held given orderedGraph
-ordered-pinned = (refl, refl, refl, refl, refl, refl, refl, refl, refl, refl, refl)
+ordered-pinned = (refl, refl, refl, refl, refl, refl, refl, refl, refl, refl, refl, refl, refl)
 
 -- ordered over one source: larger codes first and equal ones allowed, each below its gate's code, 4 and then 6; and three lists that are not
 pub order-pinned :
@@ -465,7 +481,7 @@ pub made-pinned :
     × (madeBefore (pair 4 2 ∷ pair 5 2 ∷ pair 4 2 ∷ []) 6 4 2 ≡ some 10)
 made-pinned = (refl, refl, refl)
 
--- the gate of a variable by either sign, what is defined, a negation; bits of gates over two sources; the room of the stack for
+-- the gate of a variable by either sign, what is defined, a negation; bits of gates over two sources, and of a literal past them; what a lookup past the gates gives; the room of the stack for
 -- three gates, and two words of it
 pub words-pinned :
     (gateFor (gate 3 1 2 ∷ gate 4 5 6 ∷ []) 1 ≡ some (gate 3 1 2)) × (gateFor (gate 3 1 2 ∷ gate 4 5 6 ∷ []) 2 ≡ some (gate 4 5 6))
@@ -474,11 +490,12 @@ pub words-pinned :
     × (valuesOf (pair 4 2 ∷ pair 7 2 ∷ []) (true ∷ true ∷ []) ≡ (false ∷ true ∷ true ∷ true ∷ false ∷ []))
     × (valuesOf (pair 5 2 ∷ pair 7 3 ∷ []) (true ∷ false ∷ []) ≡ (false ∷ true ∷ false ∷ true ∷ false ∷ []))
     × (valuesOf (pair 5 3 ∷ []) (true ∷ false ∷ []) ≡ (false ∷ true ∷ false ∷ false ∷ []))
+    × (bitOf (true ∷ []) 2 ≡ false) × (bitOf (true ∷ []) 3 ≡ true) × (noPair ≡ pair 0 0)
     × (stackRoom (record { graph = record { sources = 2 ∷ []; gates = gate 4 2 2 ∷ gate 6 2 2 ∷ gate 8 2 2 ∷ [] }; hash = false; fold = false }) ≡ 6)
     × (stackWords (record { lit = 5; onSecond = true } ∷ record { lit = 3; onSecond = false } ∷ []) ≡ (6 ∷ 11 ∷ []))
     × (pathOf (record { lit = 5; onSecond = true } ∷ record { lit = 3; onSecond = false } ∷ []) ≡ (3 ∷ 5 ∷ []))
 unfolding flipped valuesOf runGates bitOf flipIf isOdd
-words-pinned = (refl, refl, refl, refl, refl, refl, refl, refl, refl, refl, refl, refl)
+words-pinned = (refl, refl, refl, refl, refl, refl, refl, refl, refl, refl, refl, refl, refl, refl, refl)
 
 -- the machine, over the graph of one gate: entered and not left are literals with their first input under way, or their second
 abbrev frame : ℕ → Bool → Frame
