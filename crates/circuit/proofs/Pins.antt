@@ -481,8 +481,8 @@ pub made-pinned :
     × (madeBefore (pair 4 2 ∷ pair 5 2 ∷ pair 4 2 ∷ []) 6 4 2 ≡ some 10)
 made-pinned = (refl, refl, refl)
 
--- the gate of a variable by either sign, what is defined, a negation; bits of gates over two sources, and of a literal past them; what a lookup past the gates gives; the room of the stack for
--- three gates, and two words of it
+-- the gate of a variable by either sign, what is defined, a negation; bits of gates over two sources, and of a literal past them; what a lookup past
+-- the gates gives; the room of the stack for three gates, and two words of it
 pub words-pinned :
     (gateFor (gate 3 1 2 ∷ gate 4 5 6 ∷ []) 1 ≡ some (gate 3 1 2)) × (gateFor (gate 3 1 2 ∷ gate 4 5 6 ∷ []) 2 ≡ some (gate 4 5 6))
     × (gateFor (gate 3 1 2 ∷ gate 4 5 6 ∷ []) 3 ≡ none)
