@@ -8,7 +8,8 @@ use lib.ListN.{length}
 use Rattle.circuit.specs.Graph.{In, Gate}
 use Rattle.circuit.specs.Circuit.{Circuit, gateOutputs, gateCodes, latchCodes, codes}
 use Rattle.circuit.specs.Outcome.{Lent, circuitOf}
-use Rattle.circuit.specs.Claims.{Agrees, InBounds}
+use Rattle.circuit.specs.Claims.{Agrees}
+use Rattle.circuit.specs.Tested.{InBounds}
 use Rattle.circuit.proofs.Lists.{In-left, In-right}
 use Rattle.checks.proofs.Offenders.{flat-codes}
 

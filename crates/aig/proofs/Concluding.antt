@@ -16,7 +16,8 @@ use Rattle.circuit.specs.Walk.{Work, Out, reached, stopped}
 use Rattle.circuit.specs.Circuit.{Circuit, renumber}
 use Rattle.circuit.specs.Ordered.{imagesIn, orderedOf}
 use Rattle.circuit.specs.Outcome.{Lent, Outcome, lentOf, circuitOf, mapWords, scratchWords, zeros, onto, pairWords, summaryOf, after, outcome}
-use Rattle.circuit.specs.Claims.{Within, Agrees, Roomy, Passes}
+use Rattle.circuit.specs.Claims.{Within, Agrees, Roomy}
+use Rattle.circuit.specs.Tested.{Tested}
 use Rattle.circuit.proofs.Words.{pairs-length}
 use Rattle.circuit.proofs.Renumber.{Done, Answered}
 use Rattle.circuit.proofs.Outcome as O
@@ -47,7 +48,7 @@ images-front n m (c ∷ cs) low =
     ap₂ {C = List ℕ} (λ (y : ℕ) (ys : List ℕ). y ∷ ys) (ap (λ (e : ℕ). codeOf (entryImage e c)) (sym (getD-take n m (var c) noImage (low c (inl refl)))))
     (images-front n m cs (λ d h. low d (inr h)))
 
-module _ (l : Lent) (p : Passes l) where
+module _ (l : Lent) (p : Tested l) where
   abbrev K : Circuit
   K = circuitOf l
 

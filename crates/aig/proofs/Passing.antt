@@ -19,7 +19,7 @@ use Rattle.circuit.specs.Graph.{In}
 use Rattle.circuit.specs.Walk.{Work, Out, reached, walkAll}
 use Rattle.circuit.specs.Circuit.{Circuit, graph, net, codes, firstOver, firstAgain, definitions, start, walked, orRefuse, renumber}
 use Rattle.circuit.specs.Outcome.{Lent, outcomeOf, circuitOf, tooBig, misshapen, tooShort, orStop, conclusion, untouched, after, outcome}
-use Rattle.circuit.specs.Claims.{Passes}
+use Rattle.circuit.specs.Tested.{Tested}
 use Rattle.circuit.proofs.Settled.{settled-le}
 use Rattle.circuit.proofs.Lists.{In-right}
 use Rattle.circuit.proofs.Renumber.{Done, Why, Answered, answered}
@@ -55,19 +55,19 @@ module _ (l : Lent) where
       go false false false (some d) k = let z : why ≡ R.Over (literal d) = cc in rw z
       go false false false none k = absurd (let z : _≡_ {A = ℕ} 0 1 = cc in omega arith)
 
-  pub passed : passing l ≡ Passed → Passes l
+  pub passed : passing l ≡ Passed → Tested l
   unfolding passing
   passed e = go (tooBig C) refl (misshapen l) refl (tooShort l C) refl (firstOver (2 * C .top + 1) (codes C)) refl e
     where
       go : (a : Bool) → tooBig C ≡ a → (b : Bool) → misshapen l ≡ b → (c : Bool) → tooShort l C ≡ c → (o : Option ℕ) → firstOver (2 * C .top + 1) (codes C) ≡ o
-          → failIf a R.TooBig (failIf b R.Misshapen (failIf c R.Short (failAt o R.Over Passed))) ≡ Passed → Passes l
+          → failIf a R.TooBig (failIf b R.Misshapen (failIf c R.Short (failAt o R.Over Passed))) ≡ Passed → Tested l
       go true p b q c r o s k = absurd (let z : _≡_ {A = ℕ} 0 1 = cc in omega arith)
       go false p true q c r o s k = absurd (let z : _≡_ {A = ℕ} 0 1 = cc in omega arith)
       go false p false q true r o s k = absurd (let z : _≡_ {A = ℕ} 0 1 = cc in omega arith)
       go false p false q false r (some d) s k = absurd (let z : _≡_ {A = ℕ} 0 1 = cc in omega arith)
       go false p false q false r none s k = record { fits = record { one = p; two = q; three = r }; four = s }
 
-  module _ (p : Passes l) where
+  module _ (p : Tested l) where
     pub concludes : after l (renumber C) ≡ outcome l
     unfolding outcome
     concludes = ap (after l) (sym (O.conclusion-of l (p .fits)))

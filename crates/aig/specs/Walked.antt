@@ -8,7 +8,8 @@ use Rattle.circuit.specs.Graph.{DefinedOnce}
 use Rattle.circuit.specs.Walk.{Out, reached, stopped}
 use Rattle.circuit.specs.Circuit.{Circuit, graph, codes, firstOver, start}
 use Rattle.circuit.specs.Outcome.{Lent, circuitOf, pairWords, zeros, mapWords, scratchWords}
-use Rattle.circuit.specs.Claims.{Within, Agrees, InBounds}
+use Rattle.circuit.specs.Claims.{Within, Agrees}
+use Rattle.circuit.specs.Tested.{InBounds}
 use Rattle.aig.specs.Table.{Tabled}
 use Rattle.ending.specs.declared.Walked.{Walked}
 use Rattle.ending.specs.declared.Walked.the-variants.{Reached, Stopped}

@@ -19,7 +19,7 @@ use Rattle.circuit.specs.Refusals.{refusalNumber}
 use Rattle.circuit.specs.Walk.{Out, reached, stopped}
 use Rattle.circuit.specs.Circuit.{Circuit, gateCodes, latchCodes, codes, firstOver, renumber}
 use Rattle.circuit.specs.Outcome.{Lent, Outcome, lentOf, circuitOf, gatesOf, tooBig, misshapen, tooShort, conclusion, total, onto, zeros, untouched, cleared, outcome}
-use Rattle.circuit.specs.Claims.{Fits, Passes}
+use Rattle.circuit.specs.Tested.{Fits, Tested}
 use Rattle.circuit.specs.Graph.{In}
 use Rattle.circuit.proofs.Lists.{In-right}
 use Rattle.circuit.proofs.Outcome.{Concluded, concluded, bounds, refusal-of, success-of, conclusion-of}
@@ -49,7 +49,7 @@ or-no true = refl
 or-no false = refl
 
 -- where checks 1 to 4 pass, the words that the records took are 0 afterwards
-module _ (l : Lent) (flat : List ℕ) (p : Passes l) where
+module _ (l : Lent) (flat : List ℕ) (p : Tested l) where
   late : (r : Refusal) → Concluded l (stopped r) → leb (refusalNumber r) 4 ≡ false
   late TooBig k = absurd (true≢false (sym k ∙ p .fits .one))
   late Misshapen k = absurd (true≢false (sym (k .1) ∙ p .fits .two))

@@ -1,7 +1,7 @@
 -- What renumbering with gate records promises, in the words of a caller: it is renumbering of the records laid flat, the sixth lent list is left or cleared, and the
 -- contract determines the answer and all six lists. Assumes nothing.
 use Prim.Native.Nat.{ℕ, _<_, _≤_}
-use mathlib.Core.Path.{_≡_, refl, sym, ap, _∙_}
+use mathlib.Core.Path.{_≡_, refl, sym, ap, subst⁻¹, _∙_}
 use mathlib.Core.Bool.{Bool, true, false, not, cond, _&&_}
 use mathlib.Core.List.{List, [], _∷_}
 use lib.Dec.{leb}
@@ -25,6 +25,9 @@ use Rattle.circuit.specs.declared.Answer.the-variants.{Refused}
 use Rattle.circuit.specs.Refusals.{refusalNumber}
 use Rattle.circuit.specs.Outcome.{Lent, circuitOf, tooBig, misshapen, onto, zeros, untouched, outcome, outcomeOf}
 use Rattle.circuit.specs.Claims.{Passes}
+use Rattle.circuit.specs.Demands.{Demands}
+use Rattle.circuit.proofs.Demands.{demands}
+use Rattle.circuit.proofs.Refusing.{tested}
 use Rattle.circuit.proofs.Outcome.{refusal-from}
 use Rattle.aig_records.specs.Records.{flatOf}
 use Rattle.aig_records.specs.Outcome.{FlatOutcome, withFlat, flatShort, flatAfter, outcomeOfRecords}
@@ -65,7 +68,11 @@ module _ (l : Lent) (flat : List ℕ) where
 
   -- where they pass, the words that the records took are 0 afterwards, and the others are kept
   pub cleared-where-passed : Passes l → length (l .gates) ≤ length flat → outcomeOfRecords l flat .flat ≡ onto (zeros (length (l .gates))) flat
-  cleared-where-passed p h = ap (λ (o : FlatOutcome). o .flat) (with-room h) ∙ cleared-after l flat p
+  cleared-where-passed p h = ap (λ (o : FlatOutcome). o .flat) (with-room h) ∙ cleared-after l flat (tested l p)
+
+  -- the five lists and the answer are all that the customer demands, of the records laid flat
+  pub records-demands : length (l .gates) ≤ length flat → Demands l (circuitOf l) (outcomeOfRecords l flat .outcome)
+  records-demands h = subst⁻¹ (Demands l (circuitOf l)) (ap (λ (o : FlatOutcome). o .outcome) (with-room h)) (demands l)
 
 -- two that equal the same are equal
 both-equal : {M : Type 1} (𝓤 : URA M) {D : Type 0} (x y v : D) → ent 𝓤 (conj 𝓤 (fact 𝓤 (x ≡ v)) (fact 𝓤 (y ≡ v))) (fact 𝓤 (x ≡ y))

@@ -1,2 +1,3 @@
 pub mod Renumbering
+pub mod Pins
 pub mod Theorems

@@ -1,5 +1,5 @@
 -- The C entry for renumbering: how its tests come out, the record from C's words, and its ways out. Assumes nothing.
-use Prim.Native.Nat.{ℕ, _/_, _≤_, _<_}
+use Prim.Native.Nat.{ℕ, _≤_, _<_}
 use mathlib.Core.Path.{_≡_, refl, sym, ap, _∙_}
 use mathlib.Core.Logic.{_≢_}
 use mathlib.Core.Bool.{Bool, true, false, cond, not, _||_}
@@ -19,7 +19,7 @@ use Rattle.circuit.specs.declared.Answer.the-variants.{Renumbered, Refused}
 use Rattle.circuit.specs.Refusals.{refusalNumber, refusalLiteral}
 use Rattle.circuit.specs.Outcome.{Lent, Outcome, onto, untouched, outcome}
 use Rattle.circuit.proofs.Tests.{Same, same, other, sameTest}
-use Rattle.capi.specs.Renumber.{seenOf, isSet, recordOf, misgiven, firstNumber, firstWords, answerNumber, answerWords, asSeen, renumberSeen}
+use Rattle.capi.specs.Renumber.{seenOf, recordOf, misgiven, firstNumber, firstWords, answerNumber, answerWords, asSeen, renumberSeen}
 
 -- how the test of counts and flags comes out
 module _ (counts : List ℕ) (flags : ℕ) where
@@ -54,9 +54,9 @@ pub record-same : (l : List ℕ) (top flags : ℕ) (v : Var) → length l ≡ 5 
     → record {
       top = v;
       counts = getD l 0 0 ∷ getD l 1 0 ∷ getD l 2 0 ∷ getD l 3 0 ∷ getD l 4 0 ∷ [];
-      trim = isSet flags;
-      hash = isSet (flags / 2);
-      fold = isSet (flags / 4);
+      trim = recordOf top l flags .trim;
+      hash = recordOf top l flags .hash;
+      fold = recordOf top l flags .fold;
     } ≡ recordOf top l flags
 record-same l top flags v h e = rw (e, five l h)
 

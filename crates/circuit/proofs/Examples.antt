@@ -18,7 +18,7 @@ use Rattle.circuit.specs.Outcome.{Lent, lentOf, outcomeOf, tooBig, missh
 use Rattle.circuit.specs.Lending.{plain, trimming, hashing, folding, lend, circuit, Example, success, refusal, earlyRefusal}
 
 -- the root counts: outputs, bad states, constraints, fairness, justice
-abbrev outputs : ℕ → List ℕ
+abbrev pub outputs : ℕ → List ℕ
 outputs n = n ∷ 0 ∷ 0 ∷ 0 ∷ 0 ∷ []
 
 -- the unstarred lines
@@ -118,7 +118,7 @@ sizes =
     ∷ earlyRefusal (bare 1048575 1) Misshapen
     ∷ []
 
-abbrev Computes : List Example → Type 0
+abbrev pub Computes : List Example → Type 0
 Computes xs = map (λ x. outcome (x .lent)) xs ≡ map (λ x. x .expected) xs
 
 pub examples : Computes unstarred × Computes walks × Computes checks × Computes sizes

@@ -14,14 +14,13 @@ use Rattle.lit.proofs.Flips.{flipped-twice, odd-false}
 use Rattle.circuit.specs.Graph.{In, Gate, Graph, outVar, DefinedOnce, Reach, here, Grounded}
 use Rattle.circuit.specs.Map.{noImage, store}
 use Rattle.circuit.specs.Walk.{Net, sourceCount, Pair, Work, firstCode, nextCode, foldedIf, already, settleAs, settleOn, settle}
-use Rattle.circuit.specs.Ordered.{InOrder, flipIf}
-use Rattle.circuit.specs.Claims.{Makes}
+use Rattle.circuit.specs.Ordered.{noPair, InOrder, flipIf}
 use Rattle.circuit.proofs.Tests.{le-or, Same, same, other, sameTest}
 use Rattle.circuit.proofs.Map.{entry, codeIn, entry-same, entry-other, store-all, store-length, code-in}
 use Rattle.circuit.proofs.Graph.{Grounded-gate, one-gate}
 use Rattle.circuit.proofs.Meaning.{like, Reads, byGate, reads-like}
 use Rattle.circuit.proofs.Values.{val, val-flipped}
-use Rattle.circuit.proofs.Settle.{and-comm, Already, isNew, alreadyIs, Fresh, Placed, placed-old, placed-new}
+use Rattle.circuit.proofs.Settle.{and-comm, pair, Makes, Already, isNew, alreadyIs, Fresh, Placed, placed-old, placed-new}
 use Rattle.circuit.proofs.Settled.{settled, settled-le, settled-more, settled-room}
 
 -- what checks 1 and 4 leave: codes stay below the word for no image, and what is defined lies within the map
@@ -49,6 +48,15 @@ RuleFor N m made g = Makes N made (largerIn m g) (smallerIn m g) (codeIn m (g .o
 abbrev pub Unfolded : Net → List ℕ → Gate → Type 0
 Unfolded N m g = foldedIf (N .fold) (largerIn m g) (smallerIn m g) ≡ none
 
+-- the j-th gate made is the image of a gate that no folding row took
+pub record FromGate (N : Net) (m : List ℕ) (made : List Pair) (j : ℕ) : Type 0 where
+  pub gate : Gate
+  pub isGate : In gate (N .graph .gates)
+  pub isMapped : entry m (outVar gate) ≢ noImage
+  pub unfolded : Unfolded N m gate
+  pub code : codeIn m (gate .output) ≡ firstCode (sourceCount N) + 2 * j
+  pub words : getD made j noPair ≡ pair (largerIn m gate) (smallerIn m gate)
+
 pub record Inv (N : Net) (top : ℕ) (w : Work) : Type 0 where
   -- the map has an entry a variable, and its codes are those given out so far
   pub size : length (w .images) ≡ top + 1
@@ -71,6 +79,8 @@ pub record Inv (N : Net) (top : ℕ) (w : Work) : Type 0 where
   pub kept : N .hash ≡ false → (g g′ : Gate) → In g (N .graph .gates) → In g′ (N .graph .gates)
       → entry (w .images) (outVar g) ≢ noImage → entry (w .images) (outVar g′) ≢ noImage
       → Unfolded N (w .images) g → Unfolded N (w .images) g′ → codeIn (w .images) (g .output) ≡ codeIn (w .images) (g′ .output) → g ≡ g′
+  -- each gate made is the image of a gate
+  pub from : (j : ℕ) → j < length (w .made) → FromGate N (w .images) (w .made) j
 
 -- the work has grown: what had an image keeps it, and what is new is reached from u
 pub record Grown (G : Graph) (w w′ : Work) (u : ℕ) : Type 0 where
@@ -205,6 +215,40 @@ module _ (N : Net) (top : ℕ) (once : DefinedOnce (N .graph)) (sized : Sized N 
             i .kept off g₁ g₂ h₁ h₂ k₁ k₂ (unfolded-old g₁ (i .closed g₁ h₁ k₁) u₁) (unfolded-old g₂ (i .closed g₂ h₂ k₂) u₂)
             (sym (code-old (g₁ .output) k₁) ∙ e ∙ code-old (g₂ .output) k₂)
 
+    unfolded-new : (g′ : Gate) → BothMapped m g′ → Unfolded N m g′ → Unfolded N m′ g′
+    unfolded-new g′ b u = subst₂ (λ (x y : ℕ). foldedIf (N .fold) x y ≡ none) (sym (larger-old g′ b)) (sym (smaller-old g′ b)) u
+
+    words-new : (g′ : Gate) → BothMapped m g′ → pair (largerIn m g′) (smallerIn m g′) ≡ pair (largerIn m′ g′) (smallerIn m′ g′)
+    words-new g′ b = ap₂ pair (sym (larger-old g′ b)) (sym (smaller-old g′ b))
+
+    placed-from : (j : ℕ) → j < length made′ → FromGate N m′ made′ j
+    placed-from j h = go (pl .only j h)
+      where
+        go : ((j < length (w .made)) × (getD made′ j noPair ≡ getD (w .made) j noPair))
+            ⊎ ((t ≡ firstCode (sourceCount N) + 2 * j) × (getD made′ j noPair ≡ pair (largerIn m g) (smallerIn m g))
+            × (foldedIf (N .fold) (largerIn m g) (smallerIn m g) ≡ none))
+            → FromGate N m′ made′ j
+        go (inl k) =
+            let f : FromGate N m (w .made) j = i .from j (k .0) in
+            let b : BothMapped m (f .gate) = i .closed (f .gate) (f .isGate) (f .isMapped) in
+            record {
+              gate = f .gate;
+              isGate = f .isGate;
+              isMapped = placed-still (outVar (f .gate)) (f .isMapped);
+              unfolded = unfolded-new (f .gate) b (f .unfolded);
+              code = code-old (f .gate .output) (f .isMapped) ∙ f .code;
+              words = k .1 ∙ f .words ∙ words-new (f .gate) b;
+            }
+        go (inr k) =
+            record {
+              gate = g;
+              isGate = isGate;
+              isMapped = placed-here;
+              unfolded = unfolded-new g inputs (k .2);
+              code = code-new ∙ k .0;
+              words = k .1 ∙ words-new g inputs;
+            }
+
     source-mapped : (k : ℕ) → k < sourceCount N → entry m (var (getD (N .graph .sources) k 0)) ≢ noImage
     unfolding flipped
     source-mapped k h e = omega (arith, i .sourceCodes k h, e, sized .few)
@@ -234,6 +278,7 @@ module _ (N : Net) (top : ℕ) (once : DefinedOnce (N .graph)) (sized : Sized N 
           closed = placed-closed;
           ruled = placed-ruled;
           kept = placed-kept;
+          from = placed-from;
         }
 
     pub placed-grown : Grown (N .graph) w (record { images = m′; made = made′ }) (outVar g)

@@ -4,7 +4,7 @@ use Prim.Native.Nat.{ℕ, _*_, _-_, _≤_}
 use mathlib.Core.Path.{_≡_, refl, sym, _∙_}
 use mathlib.Core.List.{List, _++_}
 use native.Mathlib.Omega.{arith}
-use lib.ListN.{length, replicate, length-append, length-map, length-replicate}
+use lib.ListN.{length, replicate, length-append, length-map, length-replicate, getD-replicate}
 use Rattle.circuit.specs.declared.Refusal.{Refusal}
 use Rattle.circuit.specs.declared.Refusal.the-variants.{TooBig, Misshapen, Short, Over, Again, StateAgain, Undefined, Cycle, Deep}
 use Rattle.circuit.specs.Map.{noImage, imageIn, codeOf}
@@ -12,17 +12,27 @@ use Rattle.circuit.specs.Walk.{Work, Out, reached, stopped}
 use Rattle.circuit.specs.Circuit.{Circuit}
 use Rattle.circuit.specs.Ordered.{imagesIn, orderedOf}
 use Rattle.circuit.specs.Outcome.{Lent, circuitOf, mapWords, scratchWords, onto, zeros, pairWords, conclusion, written, cleared, untouched, after, outcome}
-use Rattle.circuit.specs.Claims.{Roomy, Fits, IsTrue, Keeps, KeepsPast}
+use Rattle.circuit.specs.Claims.{Roomy, Keeps, KeepsPast, Filled}
+use Rattle.circuit.specs.Tested.{Fits}
 use Rattle.circuit.proofs.Settled.{settled-le}
 use Rattle.circuit.proofs.Renumber.{Done}
 use Rattle.circuit.proofs.Words.{pairs-length}
-use Rattle.circuit.proofs.Outcome.{agrees, roomy, Concluded, concluded, onto-length, onto-past}
+use Rattle.circuit.proofs.Outcome.{WhyLent, agrees, roomy, Concluded, concluded, onto-length, onto-at, onto-past}
 
 same : (n : ℕ) (lent : List ℕ) → Keeps n lent lent
 same n lent = (refl, λ i h. refl)
 
 onto-keeps : (ws lent : List ℕ) (n : ℕ) → length ws ≡ n → n ≤ length lent → Keeps n lent (onto ws lent)
 onto-keeps ws lent n e h = (onto-length ws lent (omega arith), λ i k. onto-past ws lent i 0 (omega arith))
+
+-- and with one word in all of it
+pub filled : (n word : ℕ) (lent : List ℕ) → n ≤ length lent → Keeps n lent (onto (replicate n word) lent) → Filled n word lent (onto (replicate n word) lent)
+filled n word lent h k =
+    record {
+      enough = omega (arith, k .0);
+      front = λ i j. onto-at (replicate n word) lent i 0 (omega (arith, length-replicate n word)) ∙ getD-replicate n i word 0 j;
+      past = k;
+    }
 
 module _ (l : Lent) where
   abbrev C : Circuit
@@ -82,7 +92,7 @@ module _ (l : Lent) where
           scratch = zeros-keep (scratchWords C) (l .scratch) (room .scratch);
         }
 
-  after-refusal : (r : Refusal) → IsTrue l r → KeepsPast l C (after l (stopped r))
+  after-refusal : (r : Refusal) → WhyLent l r → KeepsPast l C (after l (stopped r))
   unfolding after
   after-refusal TooBig k = after-early TooBig
   after-refusal Misshapen k = after-early Misshapen

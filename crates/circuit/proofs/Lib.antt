@@ -1,8 +1,12 @@
 pub mod Demands
+pub mod Told
 pub mod Starred
 pub mod Examples
+pub mod Pins
 pub mod Improvements
 pub mod Exactly
+pub mod Refusing
+pub mod Cells
 pub mod Success
 pub mod Lengths
 pub mod Outcome
@@ -14,6 +18,8 @@ pub mod Walk
 pub mod Machine
 pub mod Invariant
 pub mod Settled
+pub mod Rows
+pub mod Listed
 pub mod Settle
 pub mod Ordered
 pub mod Values

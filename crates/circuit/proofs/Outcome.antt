@@ -17,12 +17,14 @@ use Rattle.circuit.specs.declared.Refusal.the-variants.{TooBig, Misshape
 use Rattle.circuit.specs.declared.Summary.{Summary}
 use Rattle.circuit.specs.declared.Answer.the-variants.{Renumbered, Refused}
 use Rattle.circuit.specs.Refusals.{refusalNumber}
-use Rattle.circuit.specs.Graph.{In}
+use Rattle.lit.specs.Code.{var}
+use Rattle.circuit.specs.Graph.{In, Distinct, defined, DefinedOnce, Loop}
 use Rattle.circuit.specs.Walk.{Work, Out, reached, stopped}
-use Rattle.circuit.specs.Circuit.{Circuit, codes, firstOver, renumber}
+use Rattle.circuit.specs.Circuit.{Circuit, graph, codes, firstOver, definitions, renumber}
 use Rattle.circuit.specs.Ordered.{orderedOf}
 use Rattle.circuit.specs.Outcome.{Lent, circuitOf, limit, tooBig, total, misshapen, tooShort, mapWords, scratchWords, orStop, conclusion, onto, summaryOf, written, cleared, untouched, after, outcome}
-use Rattle.circuit.specs.Claims.{Within, Agrees, Roomy, InBounds, Fits, Passes, IsTrue}
+use Rattle.circuit.specs.Claims.{Within, Agrees, Roomy, FirstOver, FirstAgain, IsUsed}
+use Rattle.circuit.specs.Tested.{Fits, Tested, InBounds}
 use Rattle.circuit.proofs.Checks.{Over, noneOver, oneOver, overTest}
 use Rattle.circuit.proofs.Renumber.{Limits, Why, Done, Answered, answered}
 
@@ -32,6 +34,20 @@ or-false false b e = (refl, e)
 
 same-of : (m n : ℕ) → not (eqb m n) ≡ false → m ≡ n
 same-of m n e = eqb-true m n (not-false (eqb m n) e)
+
+-- what is true where renumbering refuses, as it is computed
+abbrev pub WhyLent : Lent → Refusal → Type 0
+WhyLent l TooBig = tooBig (circuitOf l) ≡ true
+WhyLent l Misshapen = (tooBig (circuitOf l) ≡ false) × (misshapen l ≡ true)
+WhyLent l Short = (tooBig (circuitOf l) ≡ false) × (misshapen l ≡ false) × (tooShort l (circuitOf l) ≡ true)
+WhyLent l (R.Over d) = Fits l × FirstOver (2 * circuitOf l .top + 1) (codes (circuitOf l)) (d .0)
+WhyLent l (R.Again d) = Tested l × FirstAgain (0 ∷ []) (definitions (circuitOf l)) (d .0)
+WhyLent l (StateAgain d) =
+    Tested l × Distinct (0 ∷ map var (definitions (circuitOf l))) × FirstAgain (0 ∷ map var (definitions (circuitOf l))) (l .states) (d .0)
+WhyLent l (Undefined d) =
+    Tested l × DefinedOnce (graph (circuitOf l)) × IsUsed (circuitOf l) (d .0) × (In (var (d .0)) (defined (graph (circuitOf l))) → ⊥)
+WhyLent l (Cycle d) = Tested l × DefinedOnce (graph (circuitOf l)) × IsUsed (circuitOf l) (d .0) × Loop (graph (circuitOf l)) (var (d .0))
+WhyLent l (Deep d) = ⊥
 
 module _ (l : Lent) where
   abbrev C : Circuit
@@ -79,7 +95,7 @@ module _ (l : Lent) where
         scratch = ltb-false (length (l .scratch)) (scratchWords C) (a .1);
       }
 
-  from-within : Within C → tooBig C ≡ false
+  pub from-within : Within C → tooBig C ≡ false
   unfolding tooBig
   from-within h =
       rw (
@@ -90,7 +106,7 @@ module _ (l : Lent) where
         le-ltb limit (length (C .roots)) (h .roots),
       )
 
-  from-agrees : Agrees l → misshapen l ≡ false
+  pub from-agrees : Agrees l → misshapen l ≡ false
   unfolding misshapen
   from-agrees h =
       rw (
@@ -99,7 +115,7 @@ module _ (l : Lent) where
         eq-eqb (length (l .gates) % 3) 0 (h .words),
       )
 
-  from-roomy : Roomy l C → tooShort l C ≡ false
+  pub from-roomy : Roomy l C → tooShort l C ≡ false
   unfolding tooShort
   from-roomy h =
       rw (
@@ -117,15 +133,15 @@ module _ (l : Lent) where
         latches = agrees (f .two) .latches;
       }
 
-  pub bounds : Passes l → InBounds C
+  pub bounds : Tested l → InBounds C
   bounds p = go (firstOver (2 * C .top + 1) (codes C)) (overTest (2 * C .top + 1) (codes C)) (p .four)
     where
       go : (o : Option ℕ) → Over (2 * C .top + 1) (codes C) o → o ≡ none → InBounds C
       go none (noneOver f) e = f
       go (some c) (oneOver c′ k) e = absurd (let z : _≡_ {A = ℕ} 0 1 = cc in omega arith)
 
-  pub passes : Fits l → InBounds C → Passes l
-  passes f b = record { fits = f; four = go (firstOver (2 * C .top + 1) (codes C)) (overTest (2 * C .top + 1) (codes C)) }
+  pub tested-of : Fits l → InBounds C → Tested l
+  tested-of f b = record { fits = f; four = go (firstOver (2 * C .top + 1) (codes C)) (overTest (2 * C .top + 1) (codes C)) }
     where
       go : (o : Option ℕ) → Over (2 * C .top + 1) (codes C) o → o ≡ none
       go none (noneOver k) = refl
@@ -135,26 +151,20 @@ module _ (l : Lent) where
           in-middle [] = inl refl
           in-middle (x ∷ s) = inr (in-middle s)
 
-  pub passes-exactly : Passes l ↔ (Within C × Agrees l × Roomy l C × InBounds C)
-  passes-exactly = (
-    λ p. (within (p .fits .one), agrees (p .fits .two), roomy (p .fits .three), bounds p),
-    λ h. passes (record { one = from-within (h .0); two = from-agrees (h .1); three = from-roomy (h .2) }) (h .3),
-  )
-
   -- what the conclusion says
   abbrev pub Concluded : Out → Type 0
   Concluded (reached w) = Fits l × Done C w
-  Concluded (stopped r) = IsTrue l r
+  Concluded (stopped r) = WhyLent l r
 
-  by-why : Fits l → (r : Refusal) → Why C r → IsTrue l r
+  by-why : Fits l → (r : Refusal) → Why C r → WhyLent l r
   by-why f TooBig k = absurd k
   by-why f Misshapen k = absurd k
   by-why f Short k = absurd k
   by-why f (R.Over d) k = (f, k)
-  by-why f (R.Again d) k = (passes f (k .0), k .1)
-  by-why f (StateAgain d) k = (passes f (k .0), k .1, k .2)
-  by-why f (Undefined d) k = (passes f (k .0), k .1, k .2, k .3)
-  by-why f (Cycle d) k = (passes f (k .0), k .1, k .2, k .3)
+  by-why f (R.Again d) k = (tested-of f (k .0), k .1)
+  by-why f (StateAgain d) k = (tested-of f (k .0), k .1, k .2)
+  by-why f (Undefined d) k = (tested-of f (k .0), k .1, k .2, k .3)
+  by-why f (Cycle d) k = (tested-of f (k .0), k .1, k .2, k .3)
   by-why f (Deep d) k = k
 
   by-renumber : Fits l → (o : Out) → Answered C o → Concluded o

@@ -18,7 +18,8 @@ use Rattle.circuit.specs.Graph.{In, Distinct, Gate, outVar, defined, Def
 use Rattle.circuit.specs.Map.{noImage}
 use Rattle.circuit.specs.Walk.{Work, Out, reached, stopped, walkAll}
 use Rattle.circuit.specs.Circuit.{Circuit, graph, net, gateOutputs, gateCodes, latchCodes, codes, firstOver, firstAgain, definitions, start, walked, orRefuse, renumber}
-use Rattle.circuit.specs.Claims.{InBounds, AllGrounded, Named, FirstOver, FirstAgain, IsUsed}
+use Rattle.circuit.specs.Claims.{AllGrounded, Named, FirstOver, FirstAgain, IsUsed}
+use Rattle.circuit.specs.Tested.{InBounds}
 use Rattle.circuit.proofs.Tests.{Same, same, other, sameTest}
 use Rattle.circuit.proofs.Map.{entry}
 use Rattle.circuit.proofs.Lists.{In-left, In-right, In-cases, In-unmap, below-few}

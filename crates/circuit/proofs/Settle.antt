@@ -12,7 +12,6 @@ use lib.ListN.{length, getD, take, length-append, List·getD-append}
 use lib.Seq.{getD-append-seam, take-append-le, take-append-seam}
 use Rattle.circuit.specs.Walk.{Net, sourceCount, Pair, firstCode, nextCode, folded, orElse, madeBefore, foldedIf, already}
 use Rattle.circuit.specs.Ordered.{noPair, InOrder}
-use Rattle.circuit.specs.Claims.{Makes}
 use Rattle.circuit.proofs.Tests.{Same, same, other, sameTest, last-or}
 use Rattle.circuit.proofs.Values.{val, val-zero, val-one, val-old, val-new, val-gate}
 
@@ -36,6 +35,12 @@ and-comm false false = refl
 
 abbrev pub pair : ℕ → ℕ → Pair
 pair hi lo = record { larger = hi; smaller = lo }
+
+-- the images hi and lo of a gate's inputs, larger first, make t: by a folding row, if folding is on and one takes them, or else as a gate made
+abbrev pub Makes : Net → List Pair → ℕ → ℕ → ℕ → Type 0
+Makes N made hi lo t =
+    (foldedIf (N .fold) hi lo ≡ some t)
+    ⊎ ((j : ℕ) × (j < length made) × (t ≡ firstCode (sourceCount N) + 2 * j) × (getD made j noPair ≡ pair hi lo) × (foldedIf (N .fold) hi lo ≡ none))
 
 -- over n sources, the code t has the bit of the AND of a and b
 pub record Stands (n : ℕ) (made : List Pair) (t a b : ℕ) : Type 0 where
@@ -128,6 +133,10 @@ pub record Placed (N : Net) (made : List Pair) (hi lo t : ℕ) (made′ : List P
   pub grows : (a b s : ℕ) → Makes N made a b s → Makes N made′ a b s
   pub fresh : Fresh N made′
   pub own : N .hash ≡ false → foldedIf (N .fold) hi lo ≡ none → nextCode (sourceCount N) made ≤ t
+  -- each gate was there before, or is the one more, made because no folding row took the pair
+  pub only : (j : ℕ) → j < length made′
+      → ((j < length made) × (getD made′ j noPair ≡ getD made j noPair))
+      ⊎ ((t ≡ firstCode (sourceCount N) + 2 * j) × (getD made′ j noPair ≡ pair hi lo) × (foldedIf (N .fold) hi lo ≡ none))
 
 module _ (N : Net) (made : List Pair) (hi lo : ℕ) (ordered : lo ≤ hi) (small : hi < nextCode (sourceCount N) made)
     (order : InOrder (sourceCount N) made) (fresh : Fresh N made) where
@@ -149,6 +158,7 @@ module _ (N : Net) (made : List Pair) (hi lo : ℕ) (ordered : lo ≤ hi) (small
         grows = λ a b u m. m;
         fresh = fresh;
         own = λ h k. absurd (let y : _≡_ {A = Option ℕ} none (some t) = sym k ∙ e in let z : _≡_ {A = ℕ} 0 1 = cc in omega arith);
+        only = λ j h. inl (h, refl);
       }
   placed-old t (isMade t′ j e h l q r) =
       record {
@@ -165,6 +175,7 @@ module _ (N : Net) (made : List Pair) (hi lo : ℕ) (ordered : lo ≤ hi) (small
         grows = λ a b u m. m;
         fresh = fresh;
         own = λ k z. absurd (let y : _≡_ {A = Bool} true false = sym h ∙ k in let w : _≡_ {A = ℕ} 0 1 = cc in omega arith);
+        only = λ i k. inl (k, refl);
       }
 
   abbrev made′ : List Pair
@@ -188,6 +199,14 @@ module _ (N : Net) (made : List Pair) (hi lo : ℕ) (ordered : lo ≤ hi) (small
   grows′ a b s (inl e) = inl e
   grows′ a b s (inr m) = inr (m .0, omega (arith, m .1, longer), m .2, List·getD-append made (pair hi lo ∷ []) noPair (m .0) (m .1) ∙ m .3, m .4)
 
+  only′ : foldedIf (N .fold) hi lo ≡ none → (j : ℕ) → (j < length made) ⊎ (j ≡ length made)
+      → ((j < length made) × (getD made′ j noPair ≡ getD made j noPair))
+      ⊎ ((nextCode n made ≡ firstCode n + 2 * j) × (getD made′ j noPair ≡ pair hi lo) × (foldedIf (N .fold) hi lo ≡ none))
+  unfolding nextCode
+  only′ f j (inl h) = inl (h, List·getD-append made (pair hi lo ∷ []) noPair j h)
+  only′ f j (inr e) =
+      inr (omega arith, ap (λ (k : ℕ). getD made′ k noPair) e ∙ getD-append-seam made (pair hi lo) [] noPair, f)
+
   pub placed-new : already N made hi lo ≡ none → foldedIf (N .fold) hi lo ≡ none → Placed N made hi lo (nextCode n made) made′
   unfolding nextCode
   placed-new a f =
@@ -202,4 +221,5 @@ module _ (N : Net) (made : List Pair) (hi lo : ℕ) (ordered : lo ≤ hi) (small
         grows = grows′;
         fresh = λ j h. fresh′ a j (last-or (length made) j (omega (arith, longer)));
         own = λ h k. omega arith;
+        only = λ j h. only′ f j (last-or (length made) j (omega (arith, longer)));
       }

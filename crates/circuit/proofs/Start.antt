@@ -160,4 +160,5 @@ module _ (N : Net) (top : ℕ) (once : DefinedOnce (N .graph)) (sized : Sized N 
         closed = λ g h n. absurd (start-no-gate (outVar g) n g h refl);
         ruled = λ g h n. absurd (start-no-gate (outVar g) n g h refl);
         kept = λ off g g′ h h′ n n′ u u′ e. absurd (start-no-gate (outVar g) n g h refl);
+        from = λ j h. absurd (omega arith);
       }

@@ -13,14 +13,16 @@ use lib.Seq.{take-at, take-append-le, getD-take}
 use Rattle.lit.specs.Code.{var, literal, flipped}
 use Rattle.lit.specs.declared.Lit.{Lit}
 use Rattle.circuit.specs.declared.Image.the-variants.{Absent}
-use Rattle.circuit.specs.Graph.{In, Gate, outVar, Means}
+use Rattle.circuit.specs.Graph.{In, Means}
 use Rattle.circuit.specs.Map.{noImage, imageIn, imageOf, codeOf}
-use Rattle.circuit.specs.Walk.{sourceCount, Pair, Work, reached, firstCode, nextCode, foldedIf, already}
+use Rattle.circuit.specs.Walk.{sourceCount, Pair, Work, reached, firstCode, nextCode, already}
 use Rattle.circuit.specs.Circuit.{Circuit, graph, net, walked, gateOutputs}
 use Rattle.circuit.specs.Ordered.{Ordered, orderedWith, imagesIn, orderedOf, sourcesOf, orderedGraph, noPair, InOrder}
-use Rattle.circuit.specs.Outcome.{Lent, Outcome, circuitOf, conclusion, onto, zeros, pairWords, pairsOf, summaryOf, written, outcome, held}
+use Rattle.circuit.specs.Outcome.{Lent, Outcome, circuitOf, conclusion, onto, zeros, pairWords, pairsOf, summaryOf, outcome, held}
 use Rattle.circuit.specs.declared.Summary.{Summary}
-use Rattle.circuit.specs.Claims.{Fits, Succeeds, HasImage, Named, SameValue, Makes, Ruled}
+use Rattle.circuit.specs.declared.Answer.the-variants.{Renumbered}
+use Rattle.circuit.specs.Claims.{HasImage, Named, SameValue}
+use Rattle.circuit.specs.Tested.{Fits, Tested}
 use Rattle.circuit.proofs.Tests.{AtMost, atMost, above, leTest}
 use Rattle.circuit.proofs.Map.{entry, codeIn, code-image, image-code, no-image, code-in, image-entry}
 use Rattle.circuit.proofs.Lists.{In-left, In-right, In-map, In-getD}
@@ -28,11 +30,11 @@ use Rattle.circuit.proofs.Meaning.{reads-means, means-one}
 use Rattle.circuit.proofs.Values.{val}
 use Rattle.circuit.proofs.Settle.{Already, isNew, alreadyIs}
 use Rattle.circuit.proofs.Settled.{settled-le}
-use Rattle.circuit.proofs.Invariant.{Inv, lit-reads, flipped-below, codes-fit, BothMapped, largerIn, smallerIn}
+use Rattle.circuit.proofs.Invariant.{Inv, lit-reads, flipped-below, codes-fit}
 use Rattle.circuit.proofs.Ordered.{ordered-once, ordered-means}
 use Rattle.circuit.proofs.Renumber.{Done, sized, counting, reach-mapped}
 use Rattle.circuit.proofs.Words.{pairs-length, pairs-back}
-use Rattle.circuit.proofs.Outcome.{agrees, limits, concluded, Concluded, success-from, success-of, onto-take, onto-at, getD-map-in}
+use Rattle.circuit.proofs.Outcome.{agrees, limits, tested-of, concluded, Concluded, success-from, success-of, onto-take, onto-at, getD-map-in}
 
 module _ (l : Lent) (w : Work) (e : conclusion l ≡ reached w) where
   abbrev C : Circuit
@@ -43,6 +45,9 @@ module _ (l : Lent) (w : Work) (e : conclusion l ≡ reached w) where
 
   pub facts : Fits l × Done C w
   facts = subst (Concluded l) e (concluded l)
+
+  pub tested : Tested l
+  tested = tested-of l (facts .0) (facts .1 .bounds)
 
   abbrev done : Done C w
   done = facts .1
@@ -74,10 +79,10 @@ module _ (l : Lent) (w : Work) (e : conclusion l ≡ reached w) where
           same-entry m lent d k = image-entry (onto m lent) m d (onto-at m lent (var d) noImage k)
 
   -- a variable with an entry
-  pub mapped : (c : ℕ) → entry (w .images) (var c) ≢ noImage → HasImage l c (literal (codeIn (w .images) c))
+  pub mapped : (c : ℕ) → entry (w .images) (var c) ≢ noImage → HasImage l (outcome l) c (literal (codeIn (w .images) c))
   mapped c n = lookup c ∙ code-image (w .images) c n
 
-  pub mapped-back : (c : ℕ) (t : Lit) → HasImage l c t → (entry (w .images) (var c) ≢ noImage) × (t .0 ≡ codeIn (w .images) c)
+  pub mapped-back : (c : ℕ) (t : Lit) → HasImage l (outcome l) c t → (entry (w .images) (var c) ≢ noImage) × (t .0 ≡ codeIn (w .images) c)
   mapped-back c t h = image-code (w .images) c (t .0) (sym (lookup c) ∙ h)
 
   -- the lists hold the ordered circuit
@@ -110,13 +115,13 @@ module _ (l : Lent) (w : Work) (e : conclusion l ≡ reached w) where
   unfolding orderedOf
   in-order = subst⁻¹ (λ (k : ℕ). InOrder k (w .made)) sources-same (inv .order)
 
-  code-below : (c : ℕ) (t : Lit) → HasImage l c t → t .0 < nextCode (sourceCount (net C)) (w .made)
+  code-below : (c : ℕ) (t : Lit) → HasImage l (outcome l) c t → t .0 < nextCode (sourceCount (net C)) (w .made)
   code-below c t h =
       let k = mapped-back c t h in
       subst⁻¹ (λ (s : ℕ). s < nextCode (sourceCount (net C)) (w .made)) (k .1)
       (flipped-below (entry (w .images) (var c)) c (sourceCount (net C)) (w .made) (inv .low (var c) (k .0)))
 
-  pub same-value : (c : ℕ) (t : Lit) → HasImage l c t → (given : ℕ → Bool) → SameValue (graph C) (orderedGraph O) given c (t .0)
+  pub same-value : (c : ℕ) (t : Lit) → HasImage l (outcome l) c t → (given : ℕ → Bool) → SameValue (graph C) (orderedGraph O) given c (t .0)
   unfolding orderedOf
   same-value c t h given =
       let k = mapped-back c t h in
@@ -136,32 +141,32 @@ module _ (l : Lent) (w : Work) (e : conclusion l ≡ reached w) where
 
   -- next states and roots
   image-at : (cs lent : List ℕ) → ((c : ℕ) → In c cs → In c (walked C)) → (j : ℕ) → j < length cs
-      → HasImage l (getD cs j 0) (literal (getD (onto (imagesIn (w .images) cs) lent) j 0))
+      → HasImage l (outcome l) (getD cs j 0) (literal (getD (onto (imagesIn (w .images) cs) lent) j 0))
   unfolding imagesIn
   image-at cs lent all j h =
       let n : entry (w .images) (var (getD cs j 0)) ≢ noImage = done .images (getD cs j 0) (all (getD cs j 0) (In-getD cs j 0 h)) in
       let k : getD (onto (imagesIn (w .images) cs) lent) j 0 ≡ codeIn (w .images) (getD cs j 0)
       = onto-at (imagesIn (w .images) cs) lent j 0 (omega (arith, images-length cs))
       ∙ getD-map-in (λ c. codeOf (imageIn (w .images) c)) cs j 0 0 h ∙ code-in (w .images) (getD cs j 0) n in
-      subst⁻¹ (λ (t : ℕ). HasImage l (getD cs j 0) (literal t)) k (mapped (getD cs j 0) n)
+      subst⁻¹ (λ (t : ℕ). HasImage l (outcome l) (getD cs j 0) (literal t)) k (mapped (getD cs j 0) n)
 
-  pub next-image : (j : ℕ) → j < length (l .nexts) → HasImage l (getD (l .nexts) j 0) (literal (getD (outcome l .nextImages) j 0))
+  pub next-image : (j : ℕ) → j < length (l .nexts) → HasImage l (outcome l) (getD (l .nexts) j 0) (literal (getD (outcome l .nextImages) j 0))
   unfolding walked orderedOf
   next-image j h =
-      subst⁻¹ (λ (o : Outcome). HasImage l (getD (l .nexts) j 0) (literal (getD (o .nextImages) j 0))) (success-of l w e)
+      subst⁻¹ (λ (o : Outcome). HasImage l (outcome l) (getD (l .nexts) j 0) (literal (getD (o .nextImages) j 0))) (success-of l w e)
       (image-at (l .nexts) (l .nextImages) (λ c k. In-right c (cond (C .trim) [] (gateOutputs C)) _ (In-left c (C .nexts) (C .roots) k)) j h)
 
-  pub root-image : (j : ℕ) → j < length (l .roots) → HasImage l (getD (l .roots) j 0) (literal (getD (outcome l .rootImages) j 0))
+  pub root-image : (j : ℕ) → j < length (l .roots) → HasImage l (outcome l) (getD (l .roots) j 0) (literal (getD (outcome l .rootImages) j 0))
   unfolding walked orderedOf
   root-image j h =
-      subst⁻¹ (λ (o : Outcome). HasImage l (getD (l .roots) j 0) (literal (getD (o .rootImages) j 0))) (success-of l w e)
+      subst⁻¹ (λ (o : Outcome). HasImage l (outcome l) (getD (l .roots) j 0) (literal (getD (o .rootImages) j 0))) (success-of l w e)
       (image-at (l .roots) (l .rootImages) (λ c k. In-right c (cond (C .trim) [] (gateOutputs C)) _ (In-right c (C .nexts) (C .roots) k)) j h)
 
-  pub walked-image : (c : ℕ) → In c (walked C) → (t : Lit) × HasImage l c t
+  pub walked-image : (c : ℕ) → In c (walked C) → (t : Lit) × HasImage l (outcome l) c t
   walked-image c h = (literal (codeIn (w .images) c), mapped c (done .images c h))
 
   -- a literal has an image exactly when its variable is the constant's, a source's, or reached from a walked literal
-  pub images-exactly : (c : ℕ) → (((t : Lit) × HasImage l c t) → Named C (var c)) × (Named C (var c) → (t : Lit) × HasImage l c t)
+  pub images-exactly : (c : ℕ) → (((t : Lit) × HasImage l (outcome l) c t) → Named C (var c)) × (Named C (var c) → (t : Lit) × HasImage l (outcome l) c t)
   images-exactly c = (λ h. done .named (var c) (mapped-back c (h .0) (h .1) .0), λ h. (literal (codeIn (w .images) c), mapped c (go h)))
     where
       go : Named C (var c) → entry (w .images) (var c) ≢ noImage
@@ -175,24 +180,24 @@ module _ (l : Lent) (w : Work) (e : conclusion l ≡ reached w) where
   pub top-within : sourcesOf O + length (w .made) ≤ C .top
   top-within = omega (arith, sources-same, made-few, counting C (limits l (facts .0)) (done .bounds) (done .once))
 
-  pub code-within : (c : ℕ) (t : Lit) → HasImage l c t → t .0 ≤ 2 * (sourcesOf O + length (w .made)) + 1
+  pub code-within : (c : ℕ) (t : Lit) → HasImage l (outcome l) c t → t .0 ≤ 2 * (sourcesOf O + length (w .made)) + 1
   unfolding nextCode firstCode
   code-within c t h = omega (arith, code-below c t h, sources-same)
 
-  pub code-word : (c : ℕ) (t : Lit) → HasImage l c t → t .0 < noImage
+  pub code-word : (c : ℕ) (t : Lit) → HasImage l (outcome l) c t → t .0 < noImage
   code-word c t h = omega (arith, code-below c t h, codes-fit (net C) (C .top) w (sized C (limits l (facts .0)) (done .bounds)) inv)
 
   -- the codes of the constant and of the sources
-  pub constant-code : HasImage l 0 (literal 0)
+  pub constant-code : HasImage l (outcome l) 0 (literal 0)
   unfolding flipped
   constant-code =
       let k : codeIn (w .images) 0 ≡ 0 = ap (λ (x : ℕ). flipped x 0) (inv .zeroCode) in
-      subst (λ (t : ℕ). HasImage l 0 (literal t)) k (mapped 0 (inv .leaves 0 (inl refl)))
+      subst (λ (t : ℕ). HasImage l (outcome l) 0 (literal t)) k (mapped 0 (inv .leaves 0 (inl refl)))
 
-  pub source-code : (k : ℕ) → k < length (graph C .sources) → HasImage l (getD (graph C .sources) k 0) (literal (2 * (k + 1)))
+  pub source-code : (k : ℕ) → k < length (graph C .sources) → HasImage l (outcome l) (getD (graph C .sources) k 0) (literal (2 * (k + 1)))
   source-code k h =
       let d : ℕ = getD (graph C .sources) k 0 in
-      subst (λ (t : ℕ). HasImage l d (literal t)) (inv .sourceCodes k h)
+      subst (λ (t : ℕ). HasImage l (outcome l) d (literal t)) (inv .sourceCodes k h)
       (mapped d (inv .leaves (var d) (inr (In-map var d (graph C .sources) (In-getD (graph C .sources) k 0 h)))))
 
   -- hashing makes no pair twice
@@ -206,72 +211,30 @@ module _ (l : Lent) (w : Work) (e : conclusion l ≡ reached w) where
       go none (isNew f n) z q = n on i (omega (arith, length-take j (w .made))) (getD-take j (w .made) i noPair h ∙ q)
       go (some t) a z q = let y : _≡_ {A = ℕ} 0 1 = cc in omega arith
 
-  -- a gate with an image is what its inputs' images make
-  pub gate-ruled : (g : Gate) (t : Lit) → In g (C .gates) → HasImage l (g .output) t → Ruled l (net C) O g t
-  unfolding orderedOf
-  gate-ruled g t h k =
-      let n = mapped-back (g .output) t k in
-      let b : BothMapped (w .images) g = inv .closed g h (n .0) in
-      record {
-        first = literal (codeIn (w .images) (g .first));
-        second = literal (codeIn (w .images) (g .second));
-        firstImage = mapped (g .first) (b .0);
-        secondImage = mapped (g .second) (b .1);
-        makes = subst⁻¹ (λ (s : ℕ). Makes (net C) (w .made) (largerIn (w .images) g) (smallerIn (w .images) g) s) (n .1) (inv .ruled g h (n .0));
-      }
-
-  -- with hashing off and folding off, each gate with an image has a gate of its own
-  pub gate-kept : C .hash ≡ false → C .fold ≡ false → (g : Gate) (t : Lit) → In g (C .gates) → HasImage l (g .output) t
-      → ((j : ℕ) × (j < length (w .made)) × (t .0 ≡ firstCode (sourcesOf O) + 2 * j))
-      × ((g′ : Gate) → In g′ (C .gates) → HasImage l (g′ .output) t → g ≡ g′)
-  gate-kept no-hash no-fold g t h k = (its-gate (inv .ruled g h (n .0)), λ g′ h′ k′. alone g′ h′ (mapped-back (g′ .output) t k′))
-    where
-      n : (entry (w .images) (outVar g) ≢ noImage) × (t .0 ≡ codeIn (w .images) (g .output))
-      n = mapped-back (g .output) t k
-
-      unfolded : (hi lo : ℕ) → foldedIf (C .fold) hi lo ≡ none
-      unfolded hi lo = ap (λ (b : Bool). foldedIf b hi lo) no-fold
-
-      its-gate : Makes (net C) (w .made) (largerIn (w .images) g) (smallerIn (w .images) g) (codeIn (w .images) (g .output))
-          → (j : ℕ) × (j < length (w .made)) × (t .0 ≡ firstCode (sourcesOf O) + 2 * j)
-      its-gate (inl f) =
-          absurd (let y : _≡_ {A = Option ℕ} none (some (codeIn (w .images) (g .output))) = sym (unfolded (largerIn (w .images) g) (smallerIn (w .images) g)) ∙ f in
-          let z : _≡_ {A = ℕ} 0 1 = cc in omega arith)
-      its-gate (inr m) = (m .0, m .1, n .1 ∙ m .2 ∙ ap (λ (s : ℕ). firstCode s + 2 * m .0) (sym sources-same))
-
-      alone : (g′ : Gate) → In g′ (C .gates) → (entry (w .images) (outVar g′) ≢ noImage) × (t .0 ≡ codeIn (w .images) (g′ .output)) → g ≡ g′
-      alone g′ h′ n′ =
-          inv .kept no-hash g g′ h h′ (n .0) (n′ .0) (unfolded (largerIn (w .images) g) (smallerIn (w .images) g))
-          (unfolded (largerIn (w .images) g′) (smallerIn (w .images) g′)) (sym (n .1) ∙ n′ .1)
-
 -- the walk behind a success, and what the lists hold
 pub record Success (l : Lent) (s : Summary) : Type 0 where
   pub work : Work
   pub ends : conclusion l ≡ reached work
   pub sums : s ≡ summaryOf (orderedOf (circuitOf l) work)
+  pub made : s .made ≡ length (work .made)
   pub holds : held l s (outcome l) ≡ orderedOf (circuitOf l) work
 
-pub success : (l : Lent) (s : Summary) → Succeeds l s → Success l s
+pub success : (l : Lent) (s : Summary) → outcome l .answer ≡ Renumbered s → Success l s
+unfolding orderedOf
 success l s e =
     let k = success-from l s e in
     record {
       work = k .0;
       ends = k .1;
       sums = k .2;
+      made = ap (λ (x : Summary). x .made) (k .2);
       holds = ap (λ (x : Summary). held l x (outcome l)) (k .2) ∙ held-is l (k .0) (k .1);
     }
 
 -- the same with the summary answered
-module _ (l : Lent) (s : Summary) (e : Succeeds l s) where
+module _ (l : Lent) (s : Summary) (e : outcome l .answer ≡ Renumbered s) where
   abbrev from : Success l s
   from = success l s e
-
-  pub writes : (images : List ℕ) × (length images ≡ circuitOf l .top + 1) × (outcome l ≡ written l (circuitOf l) images (held l s (outcome l)))
-  writes = (
-    from .work .images,
-    facts l (from .work) (from .ends) .1 .inv .size,
-    success-of l (from .work) (from .ends) ∙ ap (written l (circuitOf l) (from .work .images)) (sym (from .holds)),
-  )
 
   pub sizes : (s .made ≡ length (held l s (outcome l) .gates)) × (s .made ≤ length (circuitOf l .gates))
       × (s .top .0 ≡ length (l .inputs) + length (l .states) + s .made) × (s .top .0 ≤ circuitOf l .top)
@@ -287,7 +250,7 @@ module _ (l : Lent) (s : Summary) (e : Succeeds l s) where
         omega (arith, top, top-within l (from .work) (from .ends)),
       )
 
-  pub codes-within : (c : ℕ) (t : Lit) → HasImage l c t → (t .0 ≤ 2 * s .top .0 + 1) × (t .0 < noImage)
+  pub codes-within : (c : ℕ) (t : Lit) → HasImage l (outcome l) c t → (t .0 ≤ 2 * s .top .0 + 1) × (t .0 < noImage)
   unfolding orderedOf
   codes-within c t h =
       let top : s .top .0 ≡ sourcesOf (orderedOf (circuitOf l) (from .work)) + length (from .work .made) = ap (λ (x : Summary). x .top .0) (from .sums) in
@@ -298,12 +261,3 @@ module _ (l : Lent) (s : Summary) (e : Succeeds l s) where
   twins on i j h k =
       subst⁻¹ (λ (O : Ordered). getD (O .gates) i noPair ≢ getD (O .gates) j noPair) (from .holds)
       (no-twins l (from .work) (from .ends) on i j h (omega (arith, ap (λ (x : Summary). x .made) (from .sums))))
-
-  pub kept : circuitOf l .hash ≡ false → circuitOf l .fold ≡ false → (g : Gate) (t : Lit) → In g (circuitOf l .gates) → HasImage l (g .output) t
-      → ((j : ℕ) × (j < s .made) × (t .0 ≡ firstCode (sourcesOf (held l s (outcome l))) + 2 * j))
-      × ((g′ : Gate) → In g′ (circuitOf l .gates) → HasImage l (g′ .output) t → g ≡ g′)
-  unfolding orderedOf
-  kept no-hash no-fold g t h k =
-      let r = gate-kept l (from .work) (from .ends) no-hash no-fold g t h k in
-      let code = r .0 .2 ∙ ap (λ (O : Ordered). firstCode (sourcesOf O) + 2 * r .0 .0) (sym (from .holds)) in
-      ((r .0 .0, omega (arith, r .0 .1, ap (λ (x : Summary). x .made) (from .sums)), code), r .1)

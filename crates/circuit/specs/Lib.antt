@@ -6,5 +6,7 @@ pub mod Circuit
 pub mod Ordered
 pub mod Outcome
 pub mod Claims
+pub mod Tested
+pub mod Demands
 pub mod Machine
 pub mod Lending

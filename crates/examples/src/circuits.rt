@@ -1,9 +1,11 @@
 // Circuits: renumbers the one on an example's line and prints the answer and the fronts of the lent lists. These are longer than they have to
-// be and hold 77, so that a word written past those named would show.
+// be and hold 77, so that a word written past those named would show. Where the line asks for literals, their images in the map follow.
 use crate::lists;
 use crate::say;
 use circuit::Answer;
 use circuit::CircuitRecord;
+use circuit::Image;
+use lit::Lit;
 use lit::Var;
 
 // This function and the two after it read the line's lists.
@@ -23,10 +25,11 @@ fn with_latches(line: &[u8], inputs: &[u32]) {
 
 fn with_gates(line: &[u8], inputs: &[u32], states: &[u32], nexts: &[u32]) {
     let mut gates = [0u32; 12];
-    let mut roots = [0u32; 4];
+    let mut roots = [0u32; 8];
     let g = lists::list(line, b'G', &mut gates);
     let r = lists::list(line, b'R', &mut roots);
     shown(
+        line,
         record(line, r),
         inputs,
         states,
@@ -36,10 +39,9 @@ fn with_gates(line: &[u8], inputs: &[u32], states: &[u32], nexts: &[u32]) {
     );
 }
 
-// The circuit but for its lists; its roots are all outputs.
+// The circuit but for its lists.
 fn record(line: &[u8], roots: usize) -> CircuitRecord {
-    let mut counts = [0u32; 5];
-    counts[0] = (roots % 4294967296) as u32;
+    let counts = kinds(line, roots);
     CircuitRecord {
         top: Var::from_index(top(line)),
         counts,
@@ -49,6 +51,15 @@ fn record(line: &[u8], roots: usize) -> CircuitRecord {
     }
 }
 
+// How many roots there are of each kind: outputs, bad states, constraints, fairness, justice. Where the line does not say, all are outputs.
+fn kinds(line: &[u8], roots: usize) -> [u32; 5] {
+    let mut counts = [0u32; 5];
+    if lists::list(line, b'K', &mut counts) == 0 {
+        counts[0] = (roots % 4294967296) as u32;
+    }
+    counts
+}
+
 fn top(line: &[u8]) -> u32 {
     let mut top = [0u32; 1];
     lists::list(line, b'V', &mut top);
@@ -56,6 +67,7 @@ fn top(line: &[u8]) -> u32 {
 }
 
 fn shown(
+    line: &[u8],
     record: CircuitRecord,
     inputs: &[u32],
     states: &[u32],
@@ -65,7 +77,7 @@ fn shown(
 ) {
     let mut map = [77u32; 12];
     let mut next_images = [77u32; 4];
-    let mut root_images = [77u32; 4];
+    let mut root_images = [77u32; 8];
     let mut gates_out = [77u32; 12];
     let mut scratch = [77u32; 64];
     let answer = aig::renumber(
@@ -82,6 +94,8 @@ fn shown(
         &mut scratch,
     );
     printed(answer, &map, &gates_out, &next_images, &root_images);
+    asked(b"; images", line, &map);
+    say::line_end();
 }
 
 fn printed(answer: Answer, map: &[u32], gates: &[u32], nexts: &[u32], roots: &[u32]) {
@@ -90,7 +104,40 @@ fn printed(answer: Answer, map: &[u32], gates: &[u32], nexts: &[u32], roots: &[u
     words(b"; gates", gates);
     words(b"; nexts", nexts);
     words(b"; roots", roots);
+}
+
+// Images in a map that stands on the line.
+pub fn in_map(line: &[u8]) {
+    let mut map = [0u32; 4];
+    let n = lists::list(line, b'M', &mut map);
+    asked(b"images", line, &map[..n]);
     say::line_end();
+}
+
+// The name, and the images of the literals that the line asks for, if it asks.
+fn asked(name: &[u8], line: &[u8], map: &[u32]) {
+    if lists::named(line, b'Q') {
+        let mut codes = [0u32; 8];
+        let n = lists::list(line, b'Q', &mut codes);
+        say::text(name);
+        images(map, Var::from_index(top(line)), &codes[..n]);
+    }
+}
+
+fn images(map: &[u32], top: Var, codes: &[u32]) {
+    let mut i = 0;
+    while i < codes.len() {
+        image(aig::lookup(map, top, Lit::from_code(codes[i])));
+        i += 1;
+    }
+}
+
+// A space and the image's code; `-` where there is none.
+fn image(found: Image) {
+    match found {
+        Image::Code(code) => say::counted(b" ", code.code() as u64),
+        Image::Absent => say::text(b" -"),
+    }
 }
 
 fn outcome(answer: Answer) {

@@ -28,11 +28,12 @@ fn lines(s: &[u8]) {
     }
 }
 
-// The first letter tells a circuit from a token. A line that is empty or begins with `#` is for the reader.
+// The first letter tells a circuit, a map and a token apart. A line that is empty or begins with `#` is for the reader.
 fn line(s: &[u8]) {
     match fields::byte(s, 0) {
         0 | b'#' => {}
         b'V' => circuits::answer(s),
+        b'M' => circuits::in_map(s),
         _ => tokens::answer(s),
     }
 }

@@ -49,12 +49,6 @@ one-lit-var κs a x y e f p q = p ∙ sym q
 pub one-lit-flipped : Determines 0 lit-flipped-kinds.ps lit-flipped-kinds.r lit-flipped-promise.Learnt
 one-lit-flipped κs a x y e f p q = p ∙ sym q
 
--- the index 3 and the code 6 name the same variable, and so does the code 7; 0 and 1 are the constant's
-pub named : (doubled (variable 3) ≡ Code (literal 6)) × (halved (literal 6) ≡ variable 3) × (halved (literal 7) ≡ variable 3)
-    × (halved (literal 0) ≡ variable 0) × (halved (literal 1) ≡ variable 0)
-unfolding doubled
-named = (refl, refl, refl, refl, refl)
-
 -- doubling answers a code exactly for the indexes below 2 ^ 31
 pub doubled-code : (v : Var) → v .0 < 2 ^ 31 → doubled v ≡ Code (literal (2 * v .0))
 unfolding doubled

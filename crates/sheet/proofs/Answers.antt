@@ -13,7 +13,7 @@ use Rattle.circuit.specs.declared.CircuitRecord.{CircuitRecord}
 use Rattle.circuit.specs.Circuit.{Circuit, renumber}
 use Rattle.circuit.specs.Ordered.{Ordered, orderedOf}
 use Rattle.circuit.specs.Outcome.{Lent, Outcome, lentOf, outcomeOf, gatesOf, limit, total, tooBig, misshapen, tooShort, pairsOf, outcome, held}
-use Rattle.circuit.specs.Claims.{Fits, Succeeds}
+use Rattle.circuit.specs.Tested.{Fits}
 use Rattle.circuit.proofs.Outcome.{conclusion-of, refusal-from}
 use Rattle.circuit.proofs.Success.{success, sizes}
 use Rattle.circuit.proofs.Words.{gates-length}
@@ -67,7 +67,7 @@ module _ (h is ss ns gs rs m n r g w : List ℕ) (shaped : Shaped h is ss ns gs 
   module _ (m′ n′ r′ g′ w′ : List ℕ) where
     -- a success: the lists hold the ordered circuit
     module _ (s : Summary) (e : outcomeOf (Renumbered s) m′ n′ r′ g′ w′ ≡ outcome lent) where
-      abbrev succeeds : Succeeds lent s
+      abbrev succeeds : outcome lent .answer ≡ Renumbered s
       succeeds = sym (ap (λ (o : Outcome). o .answer) e)
 
       pub made-few : s .made ≤ 1023

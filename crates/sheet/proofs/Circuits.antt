@@ -13,8 +13,8 @@ use Rattle.circuit.specs.Circuit.{Circuit, gateCodes, latchCodes, codes, firstO
 use Rattle.circuit.specs.Outcome.{gatesOf}
 use Rattle.sheet_read.specs.declared.Offender.the-variants.{Nothing, Over}
 use Rattle.sheet_lines.specs.Lines.{refusedLine}
-use Rattle.sheet_read.specs.Sheet.{topOf, inputCount, latchCount, gateCount, rootCount, codeCount, flagsOf}
-use Rattle.sheet.specs.Circuit.{statesOf, nextsOf, inputCodes, gateWords, latchWords, rootCodes, circuitOn, isSet, recordOn}
+use Rattle.sheet_read.specs.Sheet.{topOf, inputCount, latchCount, gateCount, rootCount, codeCount}
+use Rattle.sheet.specs.Circuit.{statesOf, nextsOf, inputCodes, gateWords, latchWords, rootCodes, circuitOn, recordOn}
 use Rattle.sheet_lines.specs.Text.{beside, refusedText}
 use Rattle.sheet.specs.Report.{outText}
 use Rattle.sheet_read.specs.Promise.{offender, Taken}
@@ -176,9 +176,9 @@ module _ (h cs : List ℕ) (taken : Taken h) (room : length cs ≡ 7161) (n : �
 
 -- the record of a header, its numbers read one by one
 abbrev with-counts : List ℕ → Var → List ℕ → CircuitRecord
-with-counts h top counts = record { top = top; counts = counts; trim = isSet (flagsOf h); hash = isSet (flagsOf h / 2); fold = isSet (flagsOf h / 4) }
+with-counts h top counts = record { top = top; counts = counts; trim = recordOn h .trim; hash = recordOn h .hash; fold = recordOn h .fold }
 
 pub record-same : (h : List ℕ) (top : Var) (a b c d e : ℕ) → length h ≡ 10 → top ≡ variable (topOf h)
     → a ≡ getD h 4 0 → b ≡ getD h 5 0 → c ≡ getD h 6 0 → d ≡ getD h 7 0 → e ≡ getD h 8 0
-    → record { top = top; counts = a ∷ b ∷ c ∷ d ∷ e ∷ []; trim = isSet (flagsOf h); hash = isSet (flagsOf h / 2); fold = isSet (flagsOf h / 4) } ≡ recordOn h
+    → with-counts h top (a ∷ b ∷ c ∷ d ∷ e ∷ []) ≡ recordOn h
 record-same h top a b c d e ten p q r s t u = rw (p, q, r, s, t, u) (ap (λ (counts : List ℕ). with-counts h (variable (topOf h)) counts) (five h ten))

@@ -4,4 +4,5 @@ pub mod Answers
 pub mod Room
 pub mod Reports
 pub mod Newlines
+pub mod Pins
 pub mod Theorems

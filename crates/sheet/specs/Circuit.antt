@@ -37,7 +37,7 @@ rootCodes h cs = drop (inputCount h + 3 * gateCount h + 2 * latchCount h) cs
 abbrev pub isSet : ℕ → Bool
 isSet n = eqb (n % 2) 1
 
--- the circuit but for its lists
+-- the circuit but for its lists; the flags are trim 1, hash 2, fold 4
 abbrev pub recordOn : List ℕ → CircuitRecord
 recordOn h =
     record {
@@ -59,7 +59,7 @@ circuitOn h cs =
       gates = gatesOf (gateWords h cs);
       counts = rootCounts h;
       roots = rootCodes h cs;
-      trim = isSet (flagsOf h);
-      hash = isSet (flagsOf h / 2);
-      fold = isSet (flagsOf h / 4);
+      trim = recordOn h .trim;
+      hash = recordOn h .hash;
+      fold = recordOn h .fold;
     }

@@ -1,4 +1,5 @@
--- The theorems of reading a sheet: each contract determines the answer and every lent cell afterwards. Assumes nothing.
+-- The theorems of reading a sheet: each contract determines the answer and every lent cell afterwards. Readings by example stand in Pins. Assumes nothing.
+pub use Rattle.sheet_read.proofs.Pins.{numbers-pinned, header-pinned, announced-pinned, readings-pinned, sizes-pinned, longest-pinned, words-pinned, headers-pinned}
 use Prim.Native.Nat.{ℕ}
 use mathlib.Core.Path.{sym, ap, _∙_}
 use mathlib.Core.List.{List}

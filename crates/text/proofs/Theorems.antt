@@ -4,7 +4,7 @@ use mathlib.Core.List.{List, [], _∷_, _++_}
 use Prim.Native.Nat.{ℕ, _+_, _-_, _^_, _≤_, _<_}
 use native.Mathlib.Omega.{arith}
 use lib.ListN.{length, take, drop}
-use lib.Seq.{length-take-le}
+use lib.Seq.{length-take-le, take-append-seam}
 use denote.Ref.{now}
 use Rattle.promise.specs.Determined.{DeterminesCells}
 use Rattle.place.specs.Place.{last, further}
@@ -43,6 +43,11 @@ text-put = puts.put-all-is
 
 pub past-the-end : (out : List ℕ) (at : ℕ) (bs : List ℕ) → length out ≤ at → putAll out at bs ≡ out
 past-the-end = puts.put-all-past
+
+-- a text that fits, put from the start: the lent bytes begin with it, whole
+pub front-is-text : (out bs : List ℕ) → length bs ≤ length out → take (length bs) (putAll out 0 bs) ≡ bs
+front-is-text out bs fits =
+    ap (take (length bs)) (puts.put-all-fits out 0 bs (omega arith)) ∙ take-append-seam bs (drop (0 + length bs) out)
 
 -- one text after the other, at the place that the first answered, is both in a row, and answers the place after both
 pub in-a-row : (out : List ℕ) (at : ℕ) (bs cs : List ℕ) → length out ≤ last

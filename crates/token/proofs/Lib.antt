@@ -5,4 +5,5 @@ pub mod Groups
 pub mod Deltas
 pub mod Shortest
 pub mod Refusals
+pub mod Pins
 pub mod Theorems

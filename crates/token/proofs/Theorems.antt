@@ -1,4 +1,4 @@
--- The theorems of the number tokens. What each rests on stands in the laws' files beside this one. Assumes nothing.
+-- The theorems of the number tokens. What each rests on stands in the laws' files beside this one; the examples stand in Pins.antt. Assumes nothing.
 use mathlib.Core.Path.{_≡_, refl, sym, _∙_}
 use mathlib.Core.Bool.{Bool, true, false}
 use mathlib.Core.List.{List, [], _∷_, _++_}
@@ -62,66 +62,7 @@ one-symbol-index κs a x y e f p q = p ∙ sym q
 pub one-pair : Determines 1 pair-kinds.ps pair-kinds.r pair-contract.Learnt
 one-pair κs a x y e f p q = p ∙ sym q
 
--- 2. Examples.
-
--- document 01's tokens; its starred ones are part of the theorem `starred` of the crate circuit, which states the whole starred list
-pub told :
-    -- `0` is 0
-    (uintAt (48 ∷ []) 0 ≡ Value 0 1)
-    -- `00` and `01` are 11
-    × (tokenNumber (uintAt (48 ∷ 48 ∷ []) 0) ≡ 11)
-    × (tokenNumber (uintAt (48 ∷ 49 ∷ []) 0) ≡ 11)
-    -- the largest number of 64 bits is read, the one after it is 12
-    × (uintAt (49 ∷ 56 ∷ 52 ∷ 52 ∷ 54 ∷ 55 ∷ 52 ∷ 52 ∷ 48 ∷ 55 ∷ 51 ∷ 55 ∷ 48 ∷ 57 ∷ 53 ∷ 53 ∷ 49 ∷ 54 ∷ 49 ∷ 53 ∷ []) 0 ≡ Value 18446744073709551615 20)
-    × (tokenNumber (uintAt (49 ∷ 56 ∷ 52 ∷ 52 ∷ 54 ∷ 55 ∷ 52 ∷ 52 ∷ 48 ∷ 55 ∷ 51 ∷ 55 ∷ 48 ∷ 57 ∷ 53 ∷ 53 ∷ 49 ∷ 54 ∷ 49 ∷ 54 ∷ []) 0) ≡ 12)
-    -- assigning, limit 6: `6` is read, `7` is 14, `8` is 12, `0` is 13
-    × (litAt (54 ∷ []) 0 6 true ≡ Value 6 1)
-    × (tokenNumber (litAt (55 ∷ []) 0 6 true) ≡ 14)
-    × (tokenNumber (litAt (56 ∷ []) 0 6 true) ≡ 12)
-    × (tokenNumber (litAt (48 ∷ []) 0 6 true) ≡ 13)
-    -- a pair for 6: `00 02` gives (6,4), `02 02` gives (4,2)
-    × (pairAt (0x00 ∷ 0x02 ∷ []) 0 6 ≡ Inputs 6 4 2)
-    × (pairAt (0x02 ∷ 0x02 ∷ []) 0 6 ≡ Inputs 4 2 2)
-unfolding uintAt digitsAt litAt pairAt deltaAt binaryAt goOnAt
-told = (refl, refl, refl, refl, refl, refl, refl, refl, refl, refl, refl)
-
--- places, ends and the order of tests
-pub pinned :
-    -- `12x` is 12, with two bytes used
-    (uintAt (49 ∷ 50 ∷ 120 ∷ []) 0 ≡ Value 12 2)
-    -- place 5 of one byte is 10 at 5
-    × (uintAt (49 ∷ []) 5 ≡ Refused NoDigit 5)
-    × (tokenNumber (uintAt (49 ∷ []) 5) ≡ 10)
-    -- assigning `00` is 11; assigning an odd number over 64 bits is 12, and not 14
-    × (tokenNumber (litAt (48 ∷ 48 ∷ []) 0 6 true) ≡ 11)
-    × (tokenNumber (litAt (49 ∷ 56 ∷ 52 ∷ 52 ∷ 54 ∷ 55 ∷ 52 ∷ 52 ∷ 48 ∷ 55 ∷ 51 ∷ 55 ∷ 48 ∷ 57 ∷ 53 ∷ 53 ∷ 49 ∷ 54 ∷ 49 ∷ 55 ∷ []) 0 6 true) ≡ 12)
-    -- eight bytes are read, redundant zero groups or not
-    × (binaryAt (0x80 ∷ 0x80 ∷ 0x80 ∷ 0x80 ∷ 0x80 ∷ 0x80 ∷ 0x80 ∷ 0x00 ∷ []) 0 ≡ Value 0 8)
-    × (binaryAt (0xff ∷ 0xff ∷ 0xff ∷ 0xff ∷ 0xff ∷ 0xff ∷ 0xff ∷ 0x7f ∷ []) 0 ≡ Value 72057594037927935 8)
-    -- the pair for 6 at place 1 of `ff 02 05` is 17 at 2
-    × (pairAt (0xff ∷ 0x02 ∷ 0x05 ∷ []) 1 6 ≡ PairRefused OverReference 2)
-    × (pairNumber (pairAt (0xff ∷ 0x02 ∷ 0x05 ∷ []) 1 6) ≡ 17)
-    -- the pair for 6 in `00` is 15 at 1
-    × (pairAt (0x00 ∷ []) 0 6 ≡ PairRefused Cut 1)
-    × (pairNumber (pairAt (0x00 ∷ []) 0 6) ≡ 15)
-unfolding uintAt digitsAt litAt pairAt deltaAt binaryAt goOnAt
-pinned = (refl, refl, refl, refl, refl, refl, refl, refl, refl, refl, refl)
-
--- the format paper's table of numbers and their bytes
-pub papers :
-    (shortest 0 ≡ 0x00 ∷ [])
-    × (shortest 1 ≡ 0x01 ∷ [])
-    × (shortest 127 ≡ 0x7f ∷ [])
-    × (shortest 128 ≡ 0x80 ∷ 0x01 ∷ [])
-    × (shortest 258 ≡ 0x82 ∷ 0x02 ∷ [])
-    × (shortest 16383 ≡ 0xff ∷ 0x7f ∷ [])
-    × (shortest 16387 ≡ 0x83 ∷ 0x80 ∷ 0x01 ∷ [])
-    × (shortest 268435455 ≡ 0xff ∷ 0xff ∷ 0xff ∷ 0x7f ∷ [])
-    × (shortest 268435463 ≡ 0x87 ∷ 0x80 ∷ 0x80 ∷ 0x80 ∷ 0x01 ∷ [])
-unfolding shortest
-papers = (refl, refl, refl, refl, refl, refl, refl, refl, refl)
-
--- 3. Groups of seven bits: the reader takes what the format calls a number and nothing else, and the shortest writing is the shortest.
+-- 2. Groups of seven bits: the reader takes what the format calls a number and nothing else, and the shortest writing is the shortest.
 
 -- grouped bytes, eight at most, are read as the number that they write, wherever they stand and whatever follows
 pub grouped-reads : (bs : List ℕ) → Grouped bs → length bs ≤ 8 → (before after : List ℕ)
@@ -151,7 +92,7 @@ pub pair-reads-back : (code a b : ℕ) → b ≤ a → a ≤ code → code < 2 ^
     ≡ Inputs a b (length (shortest (code - a)) + length (shortest (a - b)))
 pair-reads-back = groups.pair-reads-back
 
--- 4. Decimals: a number that fits 64 bits has one spelling, which reads back where no digit follows.
+-- 3. Decimals: a number that fits 64 bits has one spelling, which reads back where no digit follows.
 
 pub decimal-reads-back : (v : ℕ) → v < 2 ^ 64 → (before after : List ℕ) → leading isDigit after ≡ 0
     → uintAt (before ++ (digitsOf v ++ after)) (length before) ≡ Value v (length (digitsOf v))
@@ -160,7 +101,7 @@ decimal-reads-back = spelling.decimal-reads-back
 pub decimal-has-one-spelling : (s : List ℕ) (at v n : ℕ) → uintAt s at ≡ Value v n → (take n (drop at s) ≡ digitsOf v) × (v < 2 ^ 64)
 decimal-has-one-spelling s at v n e = (spelling.decimal-spelling s at v n e, spelling.decimal-read s at v n e .fits)
 
--- 5. Values and bytes used.
+-- 4. Values and bytes used.
 
 -- a delta that is read is its reference less the number in its bytes, so it never exceeds it
 pub delta-from-reference : (s : List ℕ) (at reference v n : ℕ) → deltaAt s at reference ≡ Value v n
@@ -184,7 +125,7 @@ pair-uses = deltas.pair-used
 pub pair-falls : (s : List ℕ) (at code a b used : ℕ) → pairAt s at code ≡ Inputs a b used → (b ≤ a) × (a ≤ code)
 pair-falls = deltas.pair-falls
 
--- 6. Refusals.
+-- 5. Refusals.
 
 -- a token that refuses names the place given
 pub tokens-name-the-place : (s : List ℕ) (at : ℕ)
@@ -221,11 +162,6 @@ pub assigning-first : (s : List ℕ) (at v n limit : ℕ) → uintAt s at ≡ Va
     × (v % 2 ≡ 1 → litAt s at limit true ≡ Refused AssignsOdd at)
     × ((v ≡ 0 → ⊥) → v % 2 ≡ 0 → litAt s at limit true ≡ litAt s at limit false)
 assigning-first s at v n limit e = (refusals.assigns-zero s at v n limit e, refusals.assigns-odd s at v n limit e, refusals.assigns-even s at v n limit e)
-
--- the limit tested before the sign is an error that looks like an improvement: assigning `7` with the limit 6 would be 12, and is 14
-pub limit-before-sign : (tokenNumber (assigned 0 (within 6 0 (uintAt (55 ∷ []) 0))) ≡ 12) × (tokenNumber (litAt (55 ∷ []) 0 6 true) ≡ 14)
-unfolding uintAt digitsAt litAt
-limit-before-sign = (refl, refl)
 
 -- the others test only 12, and a limit is inclusive
 pub limit-inclusive : (s : List ℕ) (at v n limit : ℕ) → uintAt s at ≡ Value v n → v ≤ limit
