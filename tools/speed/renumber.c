@@ -1,9 +1,10 @@
 /* Renumbers one circuit with the port and with the crate, from the same lists.
  *
- *   renumber port|crate mixed|shared GATES FLAGS [TIMES]    GATES: how many; FLAGS: trim 1, hash 2, fold 4; TIMES: how often (1)
+ *   renumber port|crate KIND GATES FLAGS [TIMES]    GATES: how many; FLAGS: trim 1, hash 2, fold 4; TIMES: how often (1)
  *
- * `shared`: as many inputs as gates, and each gate is the AND of the last input and another one: the slowest for hashing, since the last input is
- * the larger input of every gate. `mixed`: as many inputs as a twenty-fifth of the gates, at least two; each gate's inputs are drawn from all that stands before it, half of them
+ * KIND `shared`: as many inputs as gates, and each gate is the AND of the last input and another one, in a random order; the last input is the larger
+ * input of every gate. `rising`, `falling`: the same in the order of the other inputs, or against it. `signs`: half as many inputs, each with both signs
+ * of the last one. `bits`: each gate has one input of so many that those which have gates agree in as many low bits as the limits allow. `mixed`: as many inputs as a twenty-fifth of the gates, at least two; each gate's inputs are drawn from all that stands before it, half of them
  * from the last hundred; a twentieth of the inputs are constants, and a tenth of the gates repeat the pair of an earlier one, so that folding and
  * hashing have work; gates are listed in a random order; the last twentieth of the gates are roots. Prints the gates made, on which both must agree, and with a
  * clock the milliseconds of the fastest run. Only by_port and by_crate are to be counted by an instruction counter. */
@@ -39,10 +40,15 @@ static uint32_t draw(uint32_t before) {
     return 2 * variable + (uint32_t)(random64() % 2);
 }
 
-static int make(int shared, size_t count) {
+static int make(const char *kind, size_t count) {
+    int shared = strcmp(kind, "mixed") != 0, signs = strcmp(kind, "signs") == 0, falling = strcmp(kind, "falling") == 0;
+    int in_order = falling || strcmp(kind, "rising") == 0;
+    size_t stride = 1;
+    if (strcmp(kind, "bits") == 0)
+        while (2 * stride * count + count < 1048575) stride *= 2;
     gate_count = count;
     root_count = count / 20 < 1 ? 1 : count / 20;
-    input_count = shared ? count : count / 25 < 2 ? 2 : count / 25;
+    input_count = signs ? count / 2 + 1 : shared ? stride * count : count / 25 < 2 ? 2 : count / 25;
     top = (uint32_t)(input_count + count);
     inputs = malloc(4 * input_count);
     gates = malloc(12 * count);
@@ -56,12 +62,13 @@ static int make(int shared, size_t count) {
     for (size_t k = 0; k < count; k++) {
         uint32_t *gate = gates + 3 * k, before = (uint32_t)(input_count + k);
         gate[0] = 2 * (before + 1);
-        gate[1] = shared ? 2 * (uint32_t)count : draw(before);
-        gate[2] = shared ? 2 * (uint32_t)(k + 1) : draw(before);
+        size_t other = signs ? k / 2 : falling ? count - 1 - k : stride * k;
+        gate[1] = shared ? (uint32_t)(2 * input_count + (signs ? k % 2 : 0)) : draw(before);
+        gate[2] = shared ? (uint32_t)(2 * (other + 1)) : draw(before);
         if (!shared && k > 0 && random64() % 10 == 0) memcpy(gate + 1, gates + 3 * (random64() % k) + 1, 8);
     }
     for (size_t k = 0; k < root_count; k++) roots[k] = gates[3 * (count - root_count + k)];
-    for (size_t k = count - 1; k > 0; k--) {
+    for (size_t k = in_order ? 0 : count - 1; k > 0; k--) {
         size_t other = random64() % (k + 1);
         for (int i = 0; i < 3; i++) {
             uint32_t word = gates[3 * k + i];
@@ -91,8 +98,8 @@ static double now(void) {
 }
 
 int main(int argc, char **argv) {
-    if (argc < 5 || !make(strcmp(argv[2], "shared") == 0, strtoul(argv[3], NULL, 10))) {
-        fprintf(stderr, "usage: renumber port|crate mixed|shared GATES FLAGS [TIMES]\n");
+    if (argc < 5 || !make(argv[2], strtoul(argv[3], NULL, 10))) {
+        fprintf(stderr, "usage: renumber port|crate mixed|shared|rising|falling|signs|bits GATES FLAGS [TIMES]\n");
         return 2;
     }
     uint32_t flags = (uint32_t)strtoul(argv[4], NULL, 10), made = 0;

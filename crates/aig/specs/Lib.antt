@@ -1,7 +1,7 @@
 pub mod Table
 pub mod Layout
 pub mod Stack
-pub mod Chains
+pub mod Trie
 pub mod Already
 pub mod Store
 pub mod Settle
