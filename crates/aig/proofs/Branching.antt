@@ -13,7 +13,7 @@ use borrow.Author.Tests.{eq-eqb, ne-eqb}
 use Rattle.circuit.specs.Walk.{Pair, orElse, madeBefore}
 use Rattle.circuit.specs.Ordered.{noPair}
 use Rattle.circuit.proofs.Tests.{Same, same, other, sameTest, last-or, lt-or}
-use Rattle.aig.specs.Trie.{gateIn, largerOf, smallerOf, headOf, keyOf, rest, Agree, linkAt, Way, Met, Stands, Trie, Fresh, FreeAt}
+use Rattle.aig.specs.Trie.{gateIn, largerOf, smallerOf, headOf, keyOf, keyBits, rest, Agree, linkAt, Way, Met, Stands, Trie, Fresh, FreeAt}
 
 -- the search among a list and one gate more
 else-assoc : (a b : Option ℕ) (o : Option ℕ) → orElse (orElse a b) o ≡ orElse a (orElse b o)
@@ -41,7 +41,8 @@ firstOnes made n t hi lo = madeBefore (take n made) t hi lo
 
 module _ (made : List Pair) (t hi lo : ℕ) where
   one-more : (j : ℕ) → j < length made
-      → firstOnes made (suc j) t hi lo ≡ orElse (cond (eqb (largerOf made j) hi && eqb (smallerOf made j) lo) (some (t + 2 * j)) none) (firstOnes made j t hi lo)
+      → firstOnes made (suc j) t hi lo
+      ≡ orElse (cond (eqb (largerOf made j) hi && eqb (smallerOf made j) lo) (some (t + 2 * j)) none) (firstOnes made j t hi lo)
   one-more j h =
       ap (λ (l : List Pair). madeBefore l t hi lo) (take-suc made j noPair h) ∙ before-snoc (take j made) (getD made j noPair) t hi lo
       ∙ ap (λ (k : ℕ). orElse (cond (eqb (largerOf made j) hi && eqb (smallerOf made j) lo) (some (t + 2 * k)) none) (firstOnes made j t hi lo))
@@ -212,10 +213,10 @@ module _ {n : ℕ} {made : List Pair} {links : List ℕ} (t : Trie n made links)
                     f (ap (largerOf made) (sym same) ∙ y) (ap (smallerOf made) (sym same) ∙ z)
 
         -- all bits have led to it
-        pub sought-all : d ≡ 22 → keyOf x < 2 ^ 22 → (largerOf made k ≡ x .larger) × (smallerOf made k ≡ x .smaller)
+        pub sought-all : d ≡ keyBits → keyOf x < 2 ^ keyBits → (largerOf made k ≡ x .larger) × (smallerOf made k ≡ x .smaller)
         sought-all a b =
-            let agrees : Agree 22 (keyOf (gateIn made k)) (keyOf x) = subst (λ (m : ℕ). Agree m (keyOf (gateIn made k)) (keyOf x)) a (here .agrees) in
-            let key : keyOf (gateIn made k) ≡ keyOf x = agree-all 22 (keyOf (gateIn made k)) (keyOf x) (t .low k sought-inside) b agrees in
+            let agrees : Agree keyBits (keyOf (gateIn made k)) (keyOf x) = subst (λ (m : ℕ). Agree m (keyOf (gateIn made k)) (keyOf x)) a (here .agrees) in
+            let key : keyOf (gateIn made k) ≡ keyOf x = agree-all keyBits (keyOf (gateIn made k)) (keyOf x) (t .low k sought-inside) b agrees in
             (omega (arith, key, here .under), omega (arith, key))
 
       -- no gate stands there
@@ -281,7 +282,7 @@ record NewLink (n m p : ℕ) : Type 0 where
 
 -- a gate more, in a free place that its key leads to
 module _ {n : ℕ} {made : List Pair} {links : List ℕ} (t : Trie n made links) (x : Pair) (place : ℕ) (f : FreeAt n made links x place) (h : headOf x < n)
-    (room : length made < n) (low : keyOf x < 2 ^ 22) where
+    (room : length made < n) (low : keyOf x < 2 ^ keyBits) where
   abbrev m : ℕ
   m = length made
 
@@ -418,12 +419,12 @@ module _ {n : ℕ} {made : List Pair} {links : List ℕ} (t : Trie n made links)
           f .fresh i (omega arith) (sym (ap (λ (g : Pair). g .larger) p) ∙ y ∙ ap (λ (g : Pair). g .larger) q)
           (sym (ap (λ (g : Pair). g .smaller) p) ∙ z ∙ ap (λ (g : Pair). g .smaller) q)
 
-  low-more : (k : ℕ) → k < length more → keyOf (gateIn more k) < 2 ^ 22
+  low-more : (k : ℕ) → k < length more → keyOf (gateIn more k) < 2 ^ keyBits
   low-more k b = go (last-or m k (omega (arith, longer)))
     where
-      go : (k < m) ⊎ (k ≡ m) → keyOf (gateIn more k) < 2 ^ 22
-      go (inl i) = subst (λ (g : Pair). keyOf g < 2 ^ 22) (sym (old-gate k i)) (t .low k i)
-      go (inr e) = subst (λ (g : Pair). keyOf g < 2 ^ 22) (sym (new-gate k e)) low
+      go : (k < m) ⊎ (k ≡ m) → keyOf (gateIn more k) < 2 ^ keyBits
+      go (inl i) = subst (λ (g : Pair). keyOf g < 2 ^ keyBits) (sym (old-gate k i)) (t .low k i)
+      go (inr e) = subst (λ (g : Pair). keyOf g < 2 ^ keyBits) (sym (new-gate k e)) low
 
   pub trie-more : Trie n more links′
   trie-more =

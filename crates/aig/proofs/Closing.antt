@@ -195,11 +195,14 @@ module _ {s : Shape} {sources gates : List ℕ} {o : Out} {n : Walk} {l : Lit} {
       can-settle =
           rw is
           (record {
-            made = t .work .made;
-            madeIn = t .holds .gatesMade;
+            seek =
+                record {
+                  made = t .work .made;
+                  madeIn = t .holds .gatesMade;
+                  larger = larger-low (in-work u p ∙ p′) (in-work v q ∙ q′);
+                  smaller = smaller-low (in-work u p ∙ p′) (in-work v q ∙ q′);
+                };
             fits = second-made;
-            larger = larger-low (in-work u p ∙ p′) (in-work v q ∙ q′);
-            smaller = smaller-low (in-work u p ∙ p′) (in-work v q ∙ q′);
           })
 
       pub second-settled : {d : Lit} (r : Left) → d ≡ literal (G .output) → Settled s n d pair (t .work .made) map out scratch r

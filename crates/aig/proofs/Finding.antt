@@ -22,7 +22,7 @@ use Rattle.aig.specs.Layout.{linksAt, linksSize, linksOf}
 use Rattle.fold.specs.Fold.{alreadyOf}
 use Rattle.aig.specs.Already.{codes, Says}
 use Rattle.aig.specs.Already as already
-use Rattle.aig.specs.Trie.{largerOf, smallerOf, headOf, keyOf, linkAt, Trie, Fresh}
+use Rattle.aig.specs.Trie.{largerOf, smallerOf, headOf, keyOf, keyBits, linkAt, Trie, Fresh}
 use Rattle.aig.specs.Store.{largerAt, smallerAt, pairAt, codeAt, MadeIn}
 use Rattle.aig.proofs.Parts.{part-at, part-length}
 use Rattle.aig.proofs.Branching.{before-none, before-some, way-within, Sought, sought-start, sought-inside, sought-on, sought-all, sought-none}
@@ -108,7 +108,7 @@ module _ {s : Shape} {p : fold.Pair} {made : List Pair} {out scratch : List ℕ}
   low : headOf (codes p) < s .vars
   low = head-low s p (q .larger)
 
-  key-low : keyOf (codes p) < 2 ^ 22
+  key-low : keyOf (codes p) < 2 ^ keyBits
   key-low = omega (arith, q .smaller, m .room .vars)
 
   at-within : q .at < linksSize s
@@ -162,7 +162,7 @@ module _ {s : Shape} {p : fold.Pair} {made : List Pair} {out scratch : List ℕ}
         ap Code c
         ∙ ap alreadyOf (sym (before-some made (firstCode (s .sources)) (p .larger .0) (p .smaller .0) (k - 1) seek-below (z .0) (z .1) (trie .once)))
 
-    pub seek-last : {t : Lit} → d ≡ 22 → t ≡ codeAt s (k - 1) → Says s made p scratch (already.madeBefore s made p) (Found t)
+    pub seek-last : {t : Lit} → d ≡ keyBits → t ≡ codeAt s (k - 1) → Says s made p scratch (already.madeBefore s made p) (Found t)
     seek-last {t} a c = its-code t (sought-all trie (codes p) low d left (q .at) (q .sought) (k - 1) gate-there a key-low) c
 
     -- b says whether gate k - 1 has it

@@ -23,7 +23,7 @@ use Rattle.aig.specs.declared.walk.Walk.{Walk}
 use Rattle.aig.specs.declared.walk.State.the-variants.{Return}
 use Rattle.aig.specs.Table.{Tabled}
 use Rattle.aig.specs.Layout.{linksAt, linksSize, stackAt, tableOf, linksOf, stackOf}
-use Rattle.aig.specs.Trie.{headOf, keyOf, Trie, FreeAt, linked}
+use Rattle.aig.specs.Trie.{headOf, keyOf, keyBits, Trie, FreeAt, linked}
 use Rattle.aig.specs.declared.trie.Search.{Search}
 use Rattle.aig.specs.declared.trie.Search.the-variants.{Found, Free}
 use Rattle.fold.specs.declared.Already.the-variants.{Code, New}
@@ -73,7 +73,7 @@ module _ (s : Shape) (made : List walk.Pair) (out scratch : List ℕ) (m : MadeI
         → Trie (s .vars) (made ++ (codes p ∷ [])) (linksOf s after)
     linked-trie on free hi-low lo-low =
         let head : headOf (codes p) < s .vars = omega arith in
-        let key : keyOf (codes p) < 2 ^ 22 = omega (arith, m .room .vars) in
+        let key : keyOf (codes p) < 2 ^ keyBits = omega (arith, m .room .vars) in
         subst (λ (l : List ℕ). Trie (s .vars) (made ++ (codes p ∷ [])) l) (sym linked-links)
         (trie-more (m .trie on) (codes p) at free head (omega (arith, m .room .few)) key)
 

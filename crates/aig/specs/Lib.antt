@@ -2,8 +2,8 @@ pub mod Table
 pub mod Layout
 pub mod Stack
 pub mod Trie
-pub mod Already
 pub mod Store
+pub mod Already
 pub mod Settle
 pub mod Going
 pub mod Turns

@@ -14,12 +14,12 @@ use Rattle.fold.specs.declared.Pair.{Pair}
 use Rattle.aig.specs.Layout.{Room, linksOf}
 use Rattle.aig.specs.Trie.{Trie}
 
--- the place of gate k's words
-abbrev pub smallerAt : ℕ → ℕ
-smallerAt k = 2 * k + 1
-
+-- where gate k's words are
 abbrev pub largerAt : ℕ → ℕ
 largerAt k = 2 * k
+
+abbrev pub smallerAt : ℕ → ℕ
+smallerAt k = 2 * k + 1
 
 -- whether gate k's words are the pair
 unfoldable pub pairAt : List ℕ → ℕ → Pair → Bool

@@ -8,6 +8,7 @@ use Rattle.lit.specs.Code.{var}
 use Rattle.circuit.specs.Walk.{Pair}
 use Rattle.circuit.specs.Ordered.{noPair}
 
+-- gate j of those made, and its two codes
 abbrev pub gateIn : List Pair → ℕ → Pair
 gateIn made j = getD made j noPair
 
@@ -17,12 +18,17 @@ largerOf made j = gateIn made j .larger
 abbrev pub smallerOf : List Pair → ℕ → ℕ
 smallerOf made j = gateIn made j .smaller
 
--- the variable that a gate hangs under, and its key
+-- the variable that a gate with this pair hangs under
 abbrev pub headOf : Pair → ℕ
 headOf p = var (p .larger)
 
+-- its key: the larger code's sign is the lowest bit
 abbrev pub keyOf : Pair → ℕ
 keyOf p = 2 * p .smaller + p .larger % 2
+
+-- as many bits as a key can have: a code is at most 2V+1, which is below 2^21, and the sign is one bit more
+abbrev pub keyBits : ℕ
+keyBits = 22
 
 -- what is left of a key after d bits
 abbrev pub rest : ℕ → ℕ → ℕ
@@ -33,12 +39,12 @@ rest key (suc d) = rest key d / 2
 abbrev pub Agree : ℕ → ℕ → ℕ → Type 0
 Agree d x y = (i : ℕ) → i < d → rest x i % 2 ≡ rest y i % 2
 
--- where the links have the left link of gate k, and the right one: n heads come first, then n left links
+-- where the links have the link of gate k for the bit b: n heads come first, then n left links (b is 0), then the right ones
 abbrev pub linkAt : ℕ → ℕ → ℕ → ℕ
 linkAt n zero k = n + k
 linkAt n (suc b) k = 2 * n + k
 
--- q is a link of a gate that is met at a place with W
+-- one step of a way: q is the link for the bit b of a gate that is met at a place with W
 pub record Step (W : ℕ → Type 0) (links : List ℕ) (n b q : ℕ) : Type 0 where
   pub from : ℕ
   pub gate : ℕ
@@ -64,13 +70,14 @@ pub record Stands (links : List ℕ) (n : ℕ) (p : Pair) (d k : ℕ) : Type 0 w
   pub way : Way links n (headOf p) (keyOf p) d at
   pub word : getD links at 0 ≡ suc k
 
--- every gate is found by its key; one that is met agrees with the key that leads to it; no pair is there twice; links of gates not made are free
+-- the links of the gates made, each at a depth: one that is met agrees with the key that leads to it; every one is found by its key; no pair is there
+-- twice; keys have at most so many bits; links of gates not made are free
 pub record Trie (n : ℕ) (made : List Pair) (links : List ℕ) : Type 0 where
   pub depth : ℕ → ℕ
   pub met : (v key d p k : ℕ) → v < n → Way links n v key d p → getD links p 0 ≡ suc k → Met made depth v key d k
   pub found : (k : ℕ) → k < length made → Stands links n (gateIn made k) (depth k) k
   pub once : (i j : ℕ) → i < j → j < length made → largerOf made i ≡ largerOf made j → smallerOf made i ≡ smallerOf made j → ⊥
-  pub low : (k : ℕ) → k < length made → keyOf (gateIn made k) < 2 ^ 22
+  pub low : (k : ℕ) → k < length made → keyOf (gateIn made k) < 2 ^ keyBits
   pub clean : (b k : ℕ) → b < 2 → length made ≤ k → k < n → getD links (linkAt n b k) 0 ≡ 0
 
 -- no gate with the pair p was made

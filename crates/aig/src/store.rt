@@ -5,7 +5,7 @@ ghost use lib.ListN.{length};
 ghost use Rattle.aig.specs.Store.{smallerAt, pairAt, withGate};
 use fold::Pair;
 
-// Whether gate k has this pair.
+// Whether gate k has this pair. Gates under one head mostly differ in the smaller code, so that comes first.
 pub fn is_at(out: &[u32], k: usize, pair: Pair) -> bool
     requires { ⌜ smallerAt k < length (now out) ⌝ }
     ensures { λ r. ⌜ r ≡ pairAt (now (out .entry)) k pair ⌝ }

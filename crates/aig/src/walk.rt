@@ -3,10 +3,8 @@
 ghost use mathlib.Core.Path.{_≡_};
 ghost use Prim.Native.Nat.{ℕ, _+_, _-_, _*_, _^_, _<_};
 ghost use mathlib.Core.List.{List};
-ghost use Rattle.circuit.specs.Walk as circuit-walk;
-ghost use Rattle.aig.specs.Already.{madeIf, alreadyIn, Says};
-ghost use Rattle.aig.specs.Store.{MadeIn};
-ghost use Rattle.aig.specs.Settle.{numbers, left, Settled, CanSettle};
+ghost use Rattle.aig.specs.Already.{madeIf, alreadyIn, CanSeek, Answers};
+ghost use Rattle.aig.specs.Settle.{numbers, SettledIn, CanSettle};
 ghost use Rattle.aig.specs.Turns.{Walking, Turns, Runs};
 use crate::flat;
 use crate::shape::Shape;
@@ -176,7 +174,12 @@ impl Walk {
         scratch: &mut [u32],
     ) -> State
         requires { ⌜ CanSettle shape self pair (now out) (now scratch) ⌝ }
-        ensures { λ r. ⌜ ((made : List circuit-walk.Pair) → MadeIn shape made (now (out .entry)) (now (scratch .entry)) → Settled shape self output pair made (now (map .entry)) (now (out .entry)) (now (scratch .entry)) (left r (now (map .exit)) (now (out .exit)) (now (scratch .exit)))) ⌝ }
+        ensures { λ r. ⌜ SettledIn shape self output pair (now (map .entry)) (now (out .entry)) (now (scratch .entry)) (record {
+          state = r;
+          map = now (map .exit);
+          out = now (out .exit);
+          scratch = now (scratch .exit);
+        }) ⌝ }
     {
         let search = already(shape, pair, out, scratch);
         match search {
@@ -213,8 +216,8 @@ impl Walk {
 
 // The code that stands for a gate already, as the flags allow it: folding first, then a gate made. If there is none, the place for the gate.
 fn already(shape: Shape, pair: Pair, out: &[u32], scratch: &[u32]) -> Search
-    requires { ⌜ (pair .larger .0 < 2 * shape .vars) × (pair .smaller .0 < 2 * shape .vars) × ((made : List circuit-walk.Pair) × MadeIn shape made (now out) (now scratch)) ⌝ }
-    ensures { λ r. ⌜ ((made : List circuit-walk.Pair) → MadeIn shape made (now (out .entry)) (now (scratch .entry)) → Says shape made pair (now (scratch .entry)) (alreadyIn shape made pair) r) ⌝ }
+    requires { ⌜ CanSeek shape pair (now out) (now scratch) ⌝ }
+    ensures { λ r. ⌜ Answers alreadyIn shape pair (now (out .entry)) (now (scratch .entry)) r ⌝ }
 {
     let folded = pair.folded_if(shape.fold);
     match folded {
@@ -223,9 +226,10 @@ fn already(shape: Shape, pair: Pair, out: &[u32], scratch: &[u32]) -> Search
     }
 }
 
+// The same without folding: a gate is looked for where hashing is on.
 fn found_if(shape: Shape, pair: Pair, out: &[u32], scratch: &[u32]) -> Search
-    requires { ⌜ (pair .larger .0 < 2 * shape .vars) × (pair .smaller .0 < 2 * shape .vars) × ((made : List circuit-walk.Pair) × MadeIn shape made (now out) (now scratch)) ⌝ }
-    ensures { λ r. ⌜ ((made : List circuit-walk.Pair) → MadeIn shape made (now (out .entry)) (now (scratch .entry)) → Says shape made pair (now (scratch .entry)) (madeIf shape made pair) r) ⌝ }
+    requires { ⌜ CanSeek shape pair (now out) (now scratch) ⌝ }
+    ensures { λ r. ⌜ Answers madeIf shape pair (now (out .entry)) (now (scratch .entry)) r ⌝ }
 {
     if shape.hash {
         return trie::find(shape, pair, out, scratch);

@@ -9,8 +9,8 @@ use Rattle.aig.proofs.walk.Walk.settle.Tie as tie
 
 already-requires : tie.Need-already-requires
 already-requires c κs =
-    let p = c .before .before .before .before .before .pre in
-    (p .larger, p .smaller, (p .made, p .madeIn))
+    let entry = c .before .before .before .before .before in
+    entry .pre .seek
 
 enum-known-search : tie.Need-enum-known-search
 enum-known-search c = c .match .keys1
@@ -23,20 +23,24 @@ enum-known-search-2 c = c .match .keys2
 
 link-if-requires : tie.Need-link-if-requires
 link-if-requires c κs =
-    let start = c .before .before .before .before .before .before .before .before .before .before in
-    let a = start .args in
-    let p = start .pre in
-    let called = c .before .before .before .before .already in (
-      p .madeIn .room,
-      p .fits,
-      free-within (a .shape) (p .made) (a .pair) (a .scratch .now) (a .out .now) (p .madeIn) _ (called .result) _
-          (called .ensures (p .made) (p .madeIn)) (c .before .before .search2 .given .1),
+    let known = c .before .before in
+    let searched = known .before .before in
+    let entry = searched .before .before .before .before .before .before in
+    let a = entry .args in
+    let seek = entry .pre .seek in
+    let found = searched .already in (
+      seek .madeIn .room,
+      entry .pre .fits,
+      free-within (a .shape) (seek .made) (a .pair) (a .scratch .now) (a .out .now) (seek .madeIn) _ (found .result) _
+          (found .ensures (seek .made) (seek .madeIn)) (known .search2 .given .1),
     )
 
 append-requires : tie.Need-append-requires
 append-requires c κs =
-    let p = c .before .before .before .before .before .before .before .before .before .before .before .before .before .before .pre in
-    omega (arith, out-length _ _ _ _ (p .madeIn), p .fits)
+    let linked = c .before .before .before .before in
+    let searched = linked .before .before .before .before in
+    let entry = searched .before .before .before .before .before .before in
+    omega (arith, out-length _ _ _ _ (entry .pre .seek .madeIn), entry .pre .fits)
 
 code-at-requires : tie.Need-code-at-requires
 code-at-requires c κs = search needs
