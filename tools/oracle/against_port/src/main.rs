@@ -31,7 +31,11 @@ impl Tally {
         let lists = Lists::lent(circuit, spare);
         let (port, judge) = (by_port(circuit, lists.clone()), by_crate(circuit, lists));
         if port != judge {
-            show(&shrink::smallest(circuit.clone(), differ), spare);
+            // what is too large to be shrunk is told by its sizes and its first word
+            match circuit.codes().len() {
+                0..=10_000 => show(&shrink::smallest(circuit.clone(), differ), spare),
+                _ => println!("DIFFERS, with the header {:?}: {}", circuit.header(), outcome::difference(port, judge)),
+            }
             exit(1);
         }
         *self.answers.entry(port.number).or_default() += 1;
@@ -246,13 +250,13 @@ fn large(tally: &mut Tally) {
         let mut both: Vec<(u64, u64)> = (1..262_144).flat_map(|v| [(0, 2 * v), (1, 2 * v + 1)]).collect();
         both.resize((LIMIT - 262_144) as usize, (0, 2));
         tally.compare(&under(262_144, &both, flags), [1; 5]);
-        // keys that agree with one of 22 bits in ever more of them, then that one itself, then all of them again
+        // keys that agree with one of 22 bits in ever more of them, that one itself, its twin with the other sign, and all of them again
         let (sign, smaller) = (flags % 2, 0x15_5554 + flags);
         let mut deep: Vec<(u64, u64)> = (0..21).map(|bit| (sign, smaller ^ 1 << bit)).collect();
-        deep.insert(0, (1 - sign, smaller));
-        deep.push((sign, smaller));
+        deep.insert(0, (1 - sign, smaller ^ 1));
+        deep.extend([(sign, smaller), (1 - sign, smaller)]);
         deep.extend(deep.clone());
-        tally.compare(&under(LIMIT - 46, &deep, flags), [1; 5]);
+        tally.compare(&under(LIMIT - 48, &deep, flags), [1; 5]);
     }
     for gates in [1, 2, 3, 10, 1_000, LIMIT] {
         // a cycle that fills the stack of 2G entries: a chain into a gate that feeds itself negated
