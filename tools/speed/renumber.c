@@ -1,12 +1,18 @@
 /* Renumbers one circuit with the port and with the crate, from the same lists.
  *
- *   renumber port|crate mixed|shared GATES FLAGS [TIMES]    GATES: how many; FLAGS: trim 1, hash 2, fold 4; TIMES: how often (1)
+ *   renumber port|crate KIND GATES FLAGS [TIMES]    GATES: how many; FLAGS: trim 1, hash 2, fold 4; TIMES: how often (1)
+ *   renumber port|crate file FILE FLAGS [TIMES]     a text file (aag) with no roots but outputs; latches are taken for inputs, next states for outputs
  *
- * `shared`: as many inputs as gates, and each gate is the AND of the last input and another one: the slowest for hashing, since the last input is
- * the larger input of every gate. `mixed`: as many inputs as a twenty-fifth of the gates, at least two; each gate's inputs are drawn from all that stands before it, half of them
+ * KIND `mixed`: as many inputs as a twenty-fifth of the gates, at least two; each gate's inputs are drawn from all that stands before it, half of them
  * from the last hundred; a twentieth of the inputs are constants, and a tenth of the gates repeat the pair of an earlier one, so that folding and
- * hashing have work; gates are listed in a random order; the last twentieth of the gates are roots. Prints the gates made, on which both must agree, and with a
- * clock the milliseconds of the fastest run. Only by_port and by_crate are to be counted by an instruction counter. */
+ * hashing have work; gates are listed in a random order; the last twentieth of the gates are roots.
+ * In all other kinds the last input is the larger input of every gate. `random`: as many inputs as gates, each the other input of one gate, in a random
+ * order; `rising`, `falling`: the same in the order of the inputs, or against it; `bits`: in a random order, and of eight times as many inputs, or as many
+ * as the limits allow if that is less, those whose codes agree in their low bits; `most-bits`: the same of as many inputs as the limits allow. With
+ * `signs-` before one of these each of half as many other inputs has a gate with either sign of the last one.
+ * `repeated`: both signs of a third as many inputs, then the first gate again and again. `deepest`: 23 gates such that all 22 bits of the last one's key lead
+ * to it, and then that one again and again, over 1,048,575 variables in all. Prints the gates made, on which both must agree, and with a clock the
+ * milliseconds of the fastest run. Only by_port and by_crate are to be counted by an instruction counter. */
 #include "imdagluz.h"
 #include <stdio.h>
 #include <stdlib.h>
@@ -24,6 +30,9 @@ static size_t input_count, gate_count, root_count;
 static void *circuit;
 static uint64_t state = 1;
 
+/* document 01's limit, and a code of 21 bits of which any bit can be flipped and the variable is still below 800,000 */
+enum { LIMIT = 1048575, DEEP = 0x105554 };
+
 static uint64_t random64(void) {
     state += 0x9e3779b97f4a7c15u;
     uint64_t z = state;
@@ -39,29 +48,19 @@ static uint32_t draw(uint32_t before) {
     return 2 * variable + (uint32_t)(random64() % 2);
 }
 
-static int make(int shared, size_t count) {
-    gate_count = count;
-    root_count = count / 20 < 1 ? 1 : count / 20;
-    input_count = shared ? count : count / 25 < 2 ? 2 : count / 25;
-    top = (uint32_t)(input_count + count);
+static int lists(void) {
     inputs = malloc(4 * input_count);
-    gates = malloc(12 * count);
+    gates = malloc(12 * gate_count);
     roots = malloc(4 * root_count);
     map = malloc(4 * ((size_t)top + 1));
     root_images = malloc(4 * root_count);
-    gates_out = malloc(8 * count);
-    scratch = malloc(4 * (3 * (size_t)top + 3 + 3 * count));
-    if (!inputs || !gates || !roots || !map || !root_images || !gates_out || !scratch) return 0;
-    for (size_t k = 0; k < input_count; k++) inputs[k] = (uint32_t)(2 * (k + 1));
-    for (size_t k = 0; k < count; k++) {
-        uint32_t *gate = gates + 3 * k, before = (uint32_t)(input_count + k);
-        gate[0] = 2 * (before + 1);
-        gate[1] = shared ? 2 * (uint32_t)count : draw(before);
-        gate[2] = shared ? 2 * (uint32_t)(k + 1) : draw(before);
-        if (!shared && k > 0 && random64() % 10 == 0) memcpy(gate + 1, gates + 3 * (random64() % k) + 1, 8);
-    }
-    for (size_t k = 0; k < root_count; k++) roots[k] = gates[3 * (count - root_count + k)];
-    for (size_t k = count - 1; k > 0; k--) {
+    gates_out = malloc(8 * gate_count);
+    scratch = malloc(4 * (3 * (size_t)top + 3 + 3 * gate_count));
+    return inputs && gates && roots && map && root_images && gates_out && scratch;
+}
+
+static void shuffle(void) {
+    for (size_t k = gate_count - 1; k > 0; k--) {
         size_t other = random64() % (k + 1);
         for (int i = 0; i < 3; i++) {
             uint32_t word = gates[3 * k + i];
@@ -69,8 +68,72 @@ static int make(int shared, size_t count) {
             gates[3 * other + i] = word;
         }
     }
-    circuit = crate_circuit(top, inputs, input_count, gates, 3 * count, roots, root_count);
+}
+
+static int make(const char *kind, size_t count) {
+    int mixed = strcmp(kind, "mixed") == 0, signs = strncmp(kind, "signs-", 6) == 0;
+    int repeated = strcmp(kind, "repeated") == 0, deepest = strcmp(kind, "deepest") == 0;
+    const char *order = signs ? kind + 6 : kind;
+    int falling = strcmp(order, "falling") == 0, in_order = falling || strcmp(order, "rising") == 0 || repeated || deepest;
+    size_t others = signs ? count / 2 : count, stride = 1, most = strcmp(order, "bits") == 0 ? 8 : strcmp(order, "most-bits") == 0 ? LIMIT : 1;
+    while (stride < most && 2 * stride * others + 1 + count <= LIMIT) stride *= 2;
+    if (!(mixed || repeated || deepest || in_order || most > 1 || strcmp(order, "random") == 0) || count == 0) return 0;
+    gate_count = count;
+    root_count = count / 20 < 1 ? 1 : count / 20;
+    input_count = mixed ? (count / 25 < 2 ? 2 : count / 25) : deepest ? LIMIT - count : repeated ? (count + 2) / 3 + 1 : stride * others + 1;
+    top = (uint32_t)(input_count + count);
+    if (!lists()) return 0;
+    for (size_t k = 0; k < input_count; k++) inputs[k] = (uint32_t)(2 * (k + 1));
+    for (size_t k = 0; k < count; k++) {
+        uint32_t *gate = gates + 3 * k, before = (uint32_t)(input_count + k), shared = (uint32_t)(2 * input_count);
+        gate[0] = 2 * (before + 1);
+        if (mixed) {
+            gate[1] = draw(before);
+            gate[2] = draw(before);
+            if (k > 0 && random64() % 10 == 0) memcpy(gate + 1, gates + 3 * (random64() % k) + 1, 8);
+        } else if (deepest) {
+            gate[1] = k == 0 ? shared + 1 : shared;
+            gate[2] = DEEP ^ (k == 0 || k > 21 ? 0 : (uint32_t)1 << (k - 1));
+        } else if (repeated) {
+            size_t new = k < 2 * (input_count - 1) ? k : 0;
+            gate[1] = shared;
+            gate[2] = (uint32_t)(2 * (new / 2 + 1) + new % 2);
+        } else {
+            size_t other = signs ? k / 2 : k;
+            gate[1] = shared + (signs ? (uint32_t)(k % 2) : 0);
+            gate[2] = (uint32_t)(2 * (stride * (falling ? others - 1 - other : other) + 1));
+        }
+    }
+    for (size_t k = 0; k < root_count; k++) roots[k] = gates[3 * (count - root_count + k)];
+    if (!in_order) shuffle();
     return 1;
+}
+
+/* The next number of a file, on the same line or on a later one. */
+static uint32_t number(FILE *file) {
+    unsigned value;
+    if (fscanf(file, "%u", &value) != 1) exit(2);
+    return value;
+}
+
+static int read(const char *path) {
+    FILE *file = fopen(path, "r");
+    if (!file || fscanf(file, "aag") != 0) return 0;
+    top = number(file);
+    size_t plain = number(file), latches = number(file), outputs = number(file);
+    gate_count = number(file);
+    input_count = plain + latches;
+    root_count = latches + outputs;
+    if (!lists()) return 0;
+    for (size_t k = 0; k < plain; k++) inputs[k] = number(file);
+    for (size_t k = 0; k < latches; k++) {
+        inputs[plain + k] = number(file);
+        roots[k] = number(file);
+        while (getc(file) != '\n') {}
+    }
+    for (size_t k = 0; k < outputs; k++) roots[latches + k] = number(file);
+    for (size_t k = 0; k < 3 * gate_count; k++) gates[k] = number(file);
+    return fclose(file) == 0;
 }
 
 __attribute__((noinline)) uint32_t by_port(uint32_t flags) {
@@ -91,10 +154,12 @@ static double now(void) {
 }
 
 int main(int argc, char **argv) {
-    if (argc < 5 || !make(strcmp(argv[2], "shared") == 0, strtoul(argv[3], NULL, 10))) {
-        fprintf(stderr, "usage: renumber port|crate mixed|shared GATES FLAGS [TIMES]\n");
+    int whole = argc > 4 && strcmp(argv[2], "file") == 0;
+    if (argc < 5 || !(whole ? read(argv[3]) : make(argv[2], strtoul(argv[3], NULL, 10)))) {
+        fprintf(stderr, "usage: renumber port|crate KIND GATES FLAGS [TIMES] (the kinds stand above its source)\n");
         return 2;
     }
+    circuit = crate_circuit(top, inputs, input_count, gates, 3 * gate_count, roots, root_count);
     uint32_t flags = (uint32_t)strtoul(argv[4], NULL, 10), made = 0;
     double best = 1e18;
     for (long times = argc > 5 ? strtol(argv[5], NULL, 10) : 1; times > 0; times--) {

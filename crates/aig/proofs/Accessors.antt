@@ -1,6 +1,6 @@
 -- Laws of the words that accessors read and write, one for each return of the code. Assumes nothing.
-use Prim.Native.Nat.{ℕ, _+_, _*_, _-_, _/_, _%_, _<_, _≤_}
-use mathlib.Core.Path.{_≡_, sym, _∙_, ap, ap₂}
+use Prim.Native.Nat.{ℕ, zero, suc, _+_, _*_, _-_, _/_, _%_, _<_, _≤_}
+use mathlib.Core.Path.{_≡_, refl, sym, _∙_, ap, ap₂}
 use mathlib.Core.Logic.{_≢_}
 use mathlib.Core.Bool.{Bool, true, false}
 use mathlib.Core.List.{List}
@@ -15,9 +15,9 @@ use Rattle.fold.specs.declared.Pair.{Pair}
 use Rattle.aig.specs.declared.stack.Frame.the-variants.{First, Second}
 use Rattle.aig.specs.declared.table.GateNumber.the-variants.{Number, Nothing}
 use Rattle.aig.specs.Table.{gateAt}
-use Rattle.aig.specs.Layout.{headsAt, nextsAt, stackAt, stackOf}
-use Rattle.aig.specs.Chains.{linked}
-use Rattle.aig.specs.Store.{largerAt, smallerAt, withGate}
+use Rattle.aig.specs.Layout.{stackAt, stackOf}
+use Rattle.aig.specs.Trie.{linkAt, linked}
+use Rattle.aig.specs.Store.{largerAt, smallerAt, pairAt, withGate}
 use Rattle.aig.specs.Settle.{linkedIf}
 use Rattle.aig.specs.Stack.{inWord, middleIs}
 use Rattle.aig.proofs.Parts.{part-at}
@@ -55,17 +55,34 @@ pub a-middle : (s : Shape) (ws : List ℕ) (depth c : ℕ) {x : ℕ} → x ≡ c
 unfolding middleIs
 a-middle s ws depth c e n h = rw (ne-eqb _ _ n, at-stack s ws (depth / 2) (omega arith), e)
 
--- the chains
-module _ (s : Shape) (k hi : ℕ) (ws : List ℕ) where
-  pub linked-by : {h w : ℕ} → h ≡ hi → w ≡ k + 1 → set (set ws (nextsAt s + k) (getD ws (headsAt s + h) 0)) (headsAt s + h) w ≡ linked s k hi ws
-  linked-by e f = ap₂ (λ (x y : ℕ). set (set ws (nextsAt s + k) (getD ws (headsAt s + x) 0)) (headsAt s + x) y) e f
+-- the trie
+pub left-link : (n b k : ℕ) → b ≡ 0 → 2 * n + k ≡ n + linkAt n b k
+left-link n b k e = let q : 2 * n + k ≡ n + linkAt n 0 k = omega arith in q ∙ ap (λ (x : ℕ). n + linkAt n x k) (sym e)
 
-  pub is-linked : {ws′ : List ℕ} → s .hash ≡ true → ws′ ≡ linked s k hi ws → ws′ ≡ linkedIf (s .hash) s k hi ws
-  is-linked h e = e ∙ ap (λ (b : Bool). linkedIf b s k hi ws) (sym h)
+pub right-link : (n b k : ℕ) → b ≢ 0 → 3 * n + k ≡ n + linkAt n b k
+right-link n zero k e = absurd (e refl)
+right-link n (suc b) k e = omega arith
 
-  pub not-linked : s .hash ≡ false → ws ≡ linkedIf (s .hash) s k hi ws
-  not-linked h = ap (λ (b : Bool). linkedIf b s k hi ws) (sym h)
+module _ (k place : ℕ) (ws : List ℕ) where
+  pub linked-by : {w : ℕ} → w ≡ k + 1 → set ws place w ≡ linked k place ws
+  linked-by e = ap (set ws place) e
+
+  module _ (on : Bool) where
+    pub is-linked : {ws′ : List ℕ} → on ≡ true → ws′ ≡ linked k place ws → ws′ ≡ linkedIf on k place ws
+    is-linked h e = e ∙ ap (λ (b : Bool). linkedIf b k place ws) (sym h)
+
+    pub not-linked : on ≡ false → ws ≡ linkedIf on k place ws
+    not-linked h = ap (λ (b : Bool). linkedIf b k place ws) (sym h)
 
 -- the gates made
 pub gate-by : (o : List ℕ) (k : ℕ) (p : Pair) {x y : ℕ} → x ≡ p .larger .0 → y ≡ p .smaller .0 → set (set o (largerAt k) x) (smallerAt k) y ≡ withGate o k p
 gate-by o k p e f = ap₂ (λ (x y : ℕ). set (set o (largerAt k) x) (smallerAt k) y) e f
+
+module _ (o : List ℕ) (k : ℕ) (p : Pair) {x y : ℕ} (e : x ≡ p .larger .0) (f : y ≡ p .smaller .0) where
+  pub same-smaller : getD o (smallerAt k) 0 ≡ y → eqb (getD o (largerAt k) 0) x ≡ pairAt o k p
+  unfolding pairAt
+  same-smaller h = rw (eq-eqb _ _ (h ∙ f), e)
+
+  pub other-smaller : getD o (smallerAt k) 0 ≢ y → false ≡ pairAt o k p
+  unfolding pairAt
+  other-smaller h = let n : getD o (smallerAt k) 0 ≢ p .smaller .0 = λ z. h (z ∙ sym f) in rw (ne-eqb _ _ n)

@@ -24,13 +24,14 @@ use Rattle.circuit.proofs.Machine.{FrameOk, gate-fits}
 use Rattle.circuit.proofs.Words.{gateAt}
 use Rattle.aig.specs.declared.shape.Shape.{Shape}
 use Rattle.fold.specs.declared.Pair.{Pair}
+use Rattle.aig.specs.declared.trie.Search.{Search}
 use Rattle.aig.specs.declared.table.GateNumber.the-variants.{Number, Nothing}
 use Rattle.aig.specs.declared.walk.Walk.{Walk}
 use Rattle.aig.specs.declared.walk.State.the-variants.{Second, Return, Stopped}
 use Rattle.aig.specs.Table as table
-use Rattle.fold.specs.Fold.{largerFirst, alreadyOf}
-use Rattle.aig.specs.Already.{alreadyIn}
-use Rattle.aig.specs.Settle.{Left, numbers, settled, CanSettle}
+use Rattle.fold.specs.Fold.{largerFirst}
+use Rattle.aig.specs.Already.{alreadyIn, Says}
+use Rattle.aig.specs.Settle.{Left, numbers, settled, Settled, CanSettle}
 use Rattle.aig.specs.Going.{netOf, topOf, Ground, On, Going}
 use Rattle.aig.specs.Turns.{toGo, Onward}
 use Rattle.aig.proofs.Stepping.{returning, frame, step-no-gate, step-second, stepped-less}
@@ -142,6 +143,10 @@ module _ {s : Shape} {sources gates : List ℕ} {o : Out} {n : Walk} {l : Lit} {
       unfolding largerFirst
       larger-low = omega (arith, code-low (G .first) x first-mapped p, code-low (G .second) y second-mapped q)
 
+      smaller-low : largerFirst x y .smaller .0 < 2 * s .vars
+      unfolding largerFirst
+      smaller-low = omega (arith, code-low (G .first) x first-mapped p)
+
       -- settling on the lists is settling the gate
       abbrev found : Option ℕ
       found = alreadyIn s (t .work .made) (largerFirst x y)
@@ -158,10 +163,12 @@ module _ {s : Shape} {sources gates : List ℕ} {o : Out} {n : Walk} {l : Lit} {
           ap₂ (λ (a b : ℕ). settleOn N (t .work) (G .output) a b) (ap codeOf p) (ap codeOf q)
           ∙ ap (settleAs N (t .work) (G .output) (max (x .0) (y .0)) (min (x .0) (y .0))) same-found
 
-      settled-so : Settles s gates (n .depth) (t .frames) (settle N (t .work) G) (settled s n (literal (G .output)) (largerFirst x y) map out scratch (alreadyOf found))
-      settled-so =
-          subst (λ (w : Work). Settles s gates (n .depth) (t .frames) w (settled s n (literal (G .output)) (largerFirst x y) map out scratch (alreadyOf found)))
-          (sym same-settle) (settles N (g .counted) n (t .holds) (t .stacked) (literal (G .output)) (largerFirst x y) second-made larger-low found)
+      settled-so : (a : Search) → Says s (t .work .made) (largerFirst x y) scratch found a
+          → Settles s gates (n .depth) (t .frames) (settle N (t .work) G) (settled s n (literal (G .output)) (largerFirst x y) map out scratch a)
+      settled-so a f =
+          subst (λ (w : Work). Settles s gates (n .depth) (t .frames) w (settled s n (literal (G .output)) (largerFirst x y) map out scratch a))
+          (sym same-settle)
+          (settles N (g .counted) n (t .holds) (t .stacked) (literal (G .output)) (largerFirst x y) second-made larger-low smaller-low found a f)
 
       settling : step N here ≡ goes (returning (t .frames) (settle N (t .work) G))
       settling = step-second N (t .frames) (l .0) (t .work) G its-gate
@@ -188,14 +195,23 @@ module _ {s : Shape} {sources gates : List ℕ} {o : Out} {n : Walk} {l : Lit} {
       can-settle =
           rw is
           (record {
-            made = t .work .made;
-            madeIn = t .holds .gatesMade;
+            seek =
+                record {
+                  made = t .work .made;
+                  madeIn = t .holds .gatesMade;
+                  larger = larger-low (in-work u p ∙ p′) (in-work v q ∙ q′);
+                  smaller = smaller-low (in-work u p ∙ p′) (in-work v q ∙ q′);
+                };
             fits = second-made;
-            larger = larger-low (in-work u p ∙ p′) (in-work v q ∙ q′);
           })
 
-      pub second-settled : {d : Lit} (r : Left) → d ≡ literal (G .output)
-          → r ≡ settled s n d pair map out scratch (alreadyOf (alreadyIn s (t .work .made) pair)) → Onward s sources gates o (r .state) (r .map) (r .out) (r .scratch) more
+      pub second-settled : {d : Lit} (r : Left) → d ≡ literal (G .output) → Settled s n d pair (t .work .made) map out scratch r
+          → Onward s sources gates o (r .state) (r .map) (r .out) (r .scratch) more
       second-settled r w z =
+          let says : Says s (t .work .made) (largerFirst x y) scratch (alreadyIn s (t .work .made) (largerFirst x y)) (z .search)
+          = subst (λ (c : Pair). Says s (t .work .made) c scratch (alreadyIn s (t .work .made) c) (z .search)) is (z .says) in
+          let leaves : r ≡ settled s n (literal (G .output)) (largerFirst x y) map out scratch (z .search)
+          = z .leaves ∙ ap₂ (λ (i : Lit) (c : Pair). settled s n i c map out scratch (z .search)) w is in
           onward (in-work u p ∙ p′) (in-work v q ∙ q′) r
-          (subst (Settles s gates (n .depth) (t .frames) (settle N (t .work) G)) (sym (z ∙ rw (w, is))) (settled-so (in-work u p ∙ p′) (in-work v q ∙ q′)))
+          (subst (Settles s gates (n .depth) (t .frames) (settle N (t .work) G)) (sym leaves)
+          (settled-so (in-work u p ∙ p′) (in-work v q ∙ q′) (z .search) says))

@@ -1,13 +1,15 @@
--- Settling a gate on the lent lists does what it does to the work: the map gets the output's code, and a gate made stands after the others and heads
--- its chain. Assumes nothing.
-use Prim.Native.Nat.{ℕ, suc, _+_, _*_, _-_, _<_}
-use mathlib.Core.Path.{_≡_, refl, sym, _∙_, ap, subst, subst₂}
+-- Settling a gate on the lent lists does what it does to the work: the map gets the output's code, and a gate made stands after the others and in a
+-- place of the trie that was free. Assumes nothing.
+use Prim.Native.Nat.{ℕ, suc, _+_, _*_, _-_, _^_, _<_}
+use mathlib.Core.Path.{_≡_, refl, sym, _∙_, ap, ap₂, subst}
 use mathlib.Core.Bool.{Bool, true, false}
 use mathlib.Core.Option.{Option, none, some}
 use mathlib.Core.List.{List, [], _∷_, _++_, append-assoc}
 use native.Mathlib.Omega.{arith}
-use lib.ListN.{length, getD, set, take, length-append, length-set}
+use native.Mathlib.Numerals.{add-one}
+use lib.ListN.{length, set, take, length-append, length-set}
 use lib.Seq.{set-at, take-set-le}
+use Rattle.lit.specs.Code.{literal}
 use Rattle.lit.specs.declared.Lit.{Lit}
 use Rattle.circuit.specs.Map.{store}
 use Rattle.circuit.specs.Walk as walk
@@ -20,17 +22,17 @@ use Rattle.fold.specs.declared.Pair.{Pair}
 use Rattle.aig.specs.declared.walk.Walk.{Walk}
 use Rattle.aig.specs.declared.walk.State.the-variants.{Return}
 use Rattle.aig.specs.Table.{Tabled}
-use Rattle.aig.specs.Layout.{headsAt, nextsAt, stackAt, tableOf, headsOf, nextsOf, stackOf}
-use Rattle.aig.specs.Chains.{Chains, linked}
-use Rattle.fold.specs.Fold.{alreadyOf}
+use Rattle.aig.specs.Layout.{linksAt, linksSize, stackAt, tableOf, linksOf, stackOf}
+use Rattle.aig.specs.Trie.{headOf, keyOf, keyBits, Trie, FreeAt, linked}
+use Rattle.aig.specs.declared.trie.Search.{Search}
+use Rattle.aig.specs.declared.trie.Search.the-variants.{Found, Free}
+use Rattle.fold.specs.declared.Already.the-variants.{Code, New}
+use Rattle.aig.specs.Already.{codes, FreeIn, Says}
 use Rattle.aig.specs.Store.{withGate, MadeIn}
 use Rattle.aig.specs.Settle.{Left, numbers, linkedIf, settled}
 use Rattle.aig.specs.Going.{Holds, Stacked}
-use Rattle.aig.proofs.Parts.{part-at, part-set, part-before, part-after, part-length}
-use Rattle.aig.proofs.Chained.{chains-more}
-
-abbrev pub codes : Pair → walk.Pair
-codes p = record { larger = p .larger .0; smaller = p .smaller .0 }
+use Rattle.aig.proofs.Parts.{part-set, part-before, part-length}
+use Rattle.aig.proofs.Branching.{trie-more}
 
 -- two zeros become the words of a gate
 two-set : (front rest : List ℕ) (k hi lo : ℕ) → length front ≡ 2 * k → set (set (front ++ (0 ∷ 0 ∷ rest)) (2 * k) hi) (2 * k + 1) lo ≡ front ++ (hi ∷ lo ∷ rest)
@@ -48,55 +50,43 @@ module _ (s : Shape) (made : List walk.Pair) (out scratch : List ℕ) (m : MadeI
       ∙ sym (append-assoc (pairWords made) (p .larger .0 ∷ p .smaller .0 ∷ []) (zeros left-over))
       ∙ ap (λ (l : List ℕ). l ++ zeros left-over) (sym (pairs-snoc made (codes p)))
 
-  module _ (fits : p .larger .0 < 2 * s .vars) where
-    abbrev put : List ℕ
-    put = set scratch (nextsAt s + length made) (getD scratch (headsAt s + p .larger .0) 0)
-
+  -- in a place of the links
+  module _ (at : ℕ) (inside : at < linksSize s) where
     abbrev after : List ℕ
-    after = linked s (length made) (p .larger .0) scratch
+    after = linked (length made) (linksAt s + at) scratch
 
     pub linked-length : length after ≡ length scratch
-    linked-length = length-set put (headsAt s + p .larger .0) (length made + 1) ∙ length-set scratch (nextsAt s + length made) (getD scratch (headsAt s + p .larger .0) 0)
+    linked-length = length-set scratch (linksAt s + at) (length made + 1)
 
     pub linked-table : tableOf s after ≡ tableOf s scratch
-    linked-table =
-        take-set-le (s .vars) put (headsAt s + p .larger .0) (length made + 1) (omega arith)
-        ∙ take-set-le (s .vars) scratch (nextsAt s + length made) (getD scratch (headsAt s + p .larger .0) 0) (omega arith)
+    linked-table = take-set-le (s .vars) scratch (linksAt s + at) (length made + 1) (omega arith)
 
     pub linked-stack : stackOf s after ≡ stackOf s scratch
-    linked-stack =
-        part-before (stackAt s) (2 * s .gates) put (headsAt s + p .larger .0) (length made + 1) (omega arith)
-        ∙ part-before (stackAt s) (2 * s .gates) scratch (nextsAt s + length made) (getD scratch (headsAt s + p .larger .0) 0) (omega arith)
+    linked-stack = part-before (stackAt s) (2 * s .gates) scratch (linksAt s + at) (length made + 1) (omega arith)
 
-    linked-heads : headsOf s after ≡ set (headsOf s scratch) (p .larger .0) (length made + 1)
-    linked-heads =
-        part-set (headsAt s) (2 * s .vars) put (p .larger .0) (length made + 1) fits
-        ∙ ap (λ (l : List ℕ). set l (p .larger .0) (length made + 1))
-        (part-after (headsAt s) (2 * s .vars) scratch (nextsAt s + length made) (getD scratch (headsAt s + p .larger .0) 0) (omega arith))
+    linked-links : linksOf s after ≡ set (linksOf s scratch) at (suc (length made))
+    linked-links =
+        part-set (linksAt s) (linksSize s) scratch at (length made + 1) inside
+        ∙ ap (set (linksOf s scratch) at) (add-one (length made))
 
-    linked-nexts : nextsOf s after ≡ set (nextsOf s scratch) (length made) (getD (headsOf s scratch) (p .larger .0) 0)
-    linked-nexts =
-        part-before (nextsAt s) (s .gates) put (headsAt s + p .larger .0) (length made + 1) (omega arith)
-        ∙ part-set (nextsAt s) (s .gates) scratch (length made) (getD scratch (headsAt s + p .larger .0) 0) room
-        ∙ ap (set (nextsOf s scratch) (length made)) (sym (part-at (headsAt s) (2 * s .vars) scratch (p .larger .0) fits))
+    pub linked-trie : s .hash ≡ true → FreeAt (s .vars) made (linksOf s scratch) (codes p) at → p .larger .0 < 2 * s .vars → p .smaller .0 < 2 * s .vars
+        → Trie (s .vars) (made ++ (codes p ∷ [])) (linksOf s after)
+    linked-trie on free hi-low lo-low =
+        let head : headOf (codes p) < s .vars = omega arith in
+        let key : keyOf (codes p) < 2 ^ keyBits = omega (arith, m .room .vars) in
+        subst (λ (l : List ℕ). Trie (s .vars) (made ++ (codes p ∷ [])) l) (sym linked-links)
+        (trie-more (m .trie on) (codes p) at free head (omega (arith, m .room .few)) key)
 
-    linked-chains : s .hash ≡ true → Chains (made ++ (codes p ∷ [])) (headsOf s after) (nextsOf s after)
-    linked-chains on =
-        subst₂ (λ (a b : List ℕ). Chains (made ++ (codes p ∷ [])) a b) (sym linked-heads) (sym linked-nexts)
-        (chains-more made (codes p) (headsOf s scratch) (nextsOf s scratch) (m .chains on)
-        (omega (arith, part-length (nextsAt s) (s .gates) scratch (omega (arith, m .room .long))))
-        (omega (arith, part-length (headsAt s) (2 * s .vars) scratch (omega (arith, m .room .long)))))
-
-    -- with the gate in
-    made-more : (ws : List ℕ) → length ws ≡ length scratch → (s .hash ≡ true → Chains (made ++ (codes p ∷ [])) (headsOf s ws) (nextsOf s ws))
-        → MadeIn s (made ++ (codes p ∷ [])) (withGate out (length made) p) ws
-    made-more ws long ch =
-        record {
-          room = record { vars = m .room .vars; gates = m .room .gates; few = m .room .few; long = long ∙ m .room .long };
-          fits = omega (arith, length-append made (codes p ∷ []));
-          words = words-more;
-          chains = ch;
-        }
+  -- with the gate in
+  made-more : (ws : List ℕ) → length ws ≡ length scratch → (s .hash ≡ true → Trie (s .vars) (made ++ (codes p ∷ [])) (linksOf s ws))
+      → MadeIn s (made ++ (codes p ∷ [])) (withGate out (length made) p) ws
+  made-more ws long t =
+      record {
+        room = record { vars = m .room .vars; gates = m .room .gates; few = m .room .few; long = long ∙ m .room .long };
+        fits = omega (arith, length-append made (codes p ∷ []));
+        words = words-more;
+        trie = t;
+      }
 
 -- the next state and the lists after settling stand for the work w′
 pub record Settles (s : Shape) (gates : List ℕ) (depth : ℕ) (fs : List Frame) (w′ : Work) (r : Left) : Type 0 where
@@ -107,8 +97,11 @@ pub record Settles (s : Shape) (gates : List ℕ) (depth : ℕ) (fs : List Frame
 
 module _ (N : Net) {s : Shape} (counted : s .sources ≡ sourceCount N) {gates : List ℕ} {w : Work} (n : Walk) {fs : List Frame} {map out scratch : List ℕ}
     (h : Holds s gates (n .made) w map out scratch) (st : Stacked s (n .depth) fs scratch) (d : Lit) (p : Pair) (room : n .made < s .gates)
-    (fits : p .larger .0 < 2 * s .vars) where
-  settles-old : (t : ℕ) → Settles s gates (n .depth) fs (record { images = store (w .images) (d .0) t; made = w .made }) (settled s n d p map out scratch (alreadyOf (some t)))
+    (fits : p .larger .0 < 2 * s .vars) (low : p .smaller .0 < 2 * s .vars) where
+  abbrev mapped : ℕ → Work
+  mapped t = record { images = store (w .images) (d .0) t; made = w .made }
+
+  settles-old : (t : ℕ) → Settles s gates (n .depth) fs (mapped t) (settled s n d p map out scratch (Found (literal t)))
   settles-old t =
       record {
         made′ = n .made;
@@ -127,47 +120,58 @@ module _ (N : Net) {s : Shape} (counted : s .sources ≡ sourceCount N) {gates :
   below : length (w .made) < s .gates
   below = omega (arith, h .count)
 
-  module _ (ws : List ℕ) (e : ws ≡ linkedIf (s .hash) s (n .made) (p .larger .0) scratch) where
-    by-flag : (b : Bool) → s .hash ≡ b
-        → (length ws ≡ length scratch) × (tableOf s ws ≡ tableOf s scratch) × (stackOf s ws ≡ stackOf s scratch)
-        × (s .hash ≡ true → Chains (w .made ++ (codes p ∷ [])) (headsOf s ws) (nextsOf s ws))
-    by-flag true z =
-        let q : ws ≡ linked s (length (w .made)) (p .larger .0) scratch
-        = e ∙ ap (λ (b : Bool). linkedIf b s (n .made) (p .larger .0) scratch) z ∙ ap (λ (k : ℕ). linked s k (p .larger .0) scratch) (h .count) in
-        let m = h .gatesMade in (
-          ap length q ∙ linked-length s (w .made) out scratch m p below fits,
-          ap (tableOf s) q ∙ linked-table s (w .made) out scratch m p below fits,
-          ap (stackOf s) q ∙ linked-stack s (w .made) out scratch m p below fits,
-          λ on. subst (λ (l : List ℕ). Chains (w .made ++ (codes p ∷ [])) (headsOf s l) (nextsOf s l)) (sym q) (linked-chains s (w .made) out scratch m p below fits on),
-        )
-    by-flag false z =
-        let q : ws ≡ scratch = e ∙ ap (λ (b : Bool). linkedIf b s (n .made) (p .larger .0) scratch) z in (
-          ap length q,
-          ap (tableOf s) q,
-          ap (stackOf s) q,
-          λ on. absurd (let f : true ≡ false = sym on ∙ z in let x : _≡_ {A = ℕ} 0 1 = cc in omega arith),
-        )
+  -- a gate made goes into the free place
+  module _ (place : ℕ) (free : s .hash ≡ true → FreeIn s (w .made) p scratch place) where
+    module _ (ws : List ℕ) (e : ws ≡ linkedIf (s .hash) (n .made) place scratch) where
+      by-flag : (b : Bool) → s .hash ≡ b
+          → (length ws ≡ length scratch) × (tableOf s ws ≡ tableOf s scratch) × (stackOf s ws ≡ stackOf s scratch)
+          × (s .hash ≡ true → Trie (s .vars) (w .made ++ (codes p ∷ [])) (linksOf s ws))
+      by-flag true z =
+          let there = free z in
+          let q : ws ≡ linked (length (w .made)) (linksAt s + there .at) scratch
+          = e ∙ ap (λ (b : Bool). linkedIf b (n .made) place scratch) z ∙ ap₂ (λ (k i : ℕ). linked k i scratch) (h .count) (there .is) in
+          let m = h .gatesMade in
+          let inside : there .at < linksSize s
+          = omega (arith, there .free .inside, part-length (linksAt s) (linksSize s) scratch (omega (arith, m .room .long))) in (
+            ap length q ∙ linked-length s (w .made) out scratch m p below (there .at) inside,
+            ap (tableOf s) q ∙ linked-table s (w .made) out scratch m p below (there .at) inside,
+            ap (stackOf s) q ∙ linked-stack s (w .made) out scratch m p below (there .at) inside,
+            λ on. subst (λ (l : List ℕ). Trie (s .vars) (w .made ++ (codes p ∷ [])) (linksOf s l)) (sym q)
+                (linked-trie s (w .made) out scratch m p below (there .at) inside on (there .free) fits low),
+          )
+      by-flag false z =
+          let q : ws ≡ scratch = e ∙ ap (λ (b : Bool). linkedIf b (n .made) place scratch) z in (
+            ap length q,
+            ap (tableOf s) q,
+            ap (stackOf s) q,
+            λ on. absurd (let f : true ≡ false = sym on ∙ z in let x : _≡_ {A = ℕ} 0 1 = cc in omega arith),
+          )
 
-  settles-new : Settles s gates (n .depth) fs done (settled s n d p map out scratch (alreadyOf none))
-  settles-new =
-      let ws : List ℕ = linkedIf (s .hash) s (n .made) (p .larger .0) scratch in
-      let k = by-flag ws refl (s .hash) refl in
-      record {
-        made′ = n .made + 1;
-        returns = refl;
-        holds =
-            record {
-              images = new-images;
-              count = omega (arith, h .count, length-append (w .made) (codes p ∷ []));
-              gatesMade =
-                  subst (λ (j : ℕ). MadeIn s (w .made ++ (codes p ∷ [])) (withGate out j p) ws) (sym (h .count))
-                  (made-more s (w .made) out scratch (h .gatesMade) p below fits ws (k .0) (k .3));
-              table = subst (λ (l : List ℕ). Tabled (gatesOf gates) l) (sym (k .1)) (h .table);
-            };
-        stacked = record { count = st .count; words = ap (take (n .depth)) (k .2) ∙ st .words };
-      }
+    settles-new : Settles s gates (n .depth) fs done (settled s n d p map out scratch (Free place))
+    settles-new =
+        let ws : List ℕ = linkedIf (s .hash) (n .made) place scratch in
+        let k = by-flag ws refl (s .hash) refl in
+        record {
+          made′ = n .made + 1;
+          returns = refl;
+          holds =
+              record {
+                images = new-images;
+                count = omega (arith, h .count, length-append (w .made) (codes p ∷ []));
+                gatesMade =
+                    subst (λ (j : ℕ). MadeIn s (w .made ++ (codes p ∷ [])) (withGate out j p) ws) (sym (h .count))
+                    (made-more s (w .made) out scratch (h .gatesMade) p below ws (k .0) (k .3));
+                table = subst (λ (l : List ℕ). Tabled (gatesOf gates) l) (sym (k .1)) (h .table);
+              };
+          stacked = record { count = st .count; words = ap (take (n .depth)) (k .2) ∙ st .words };
+        }
 
-  pub settles : (a : Option ℕ) → Settles s gates (n .depth) fs (settleAs N w (d .0) (p .larger .0) (p .smaller .0) a) (settled s n d p map out scratch (alreadyOf a))
+  pub settles : (o : Option ℕ) (a : Search) → Says s (w .made) p scratch o a
+      → Settles s gates (n .depth) fs (settleAs N w (d .0) (p .larger .0) (p .smaller .0) o) (settled s n d p map out scratch a)
   unfolding settleAs
-  settles (some t) = settles-old t
-  settles none = settles-new
+  settles (some t) (Found u) e =
+      let same : u ≡ literal t = cc in
+      subst (λ (x : Lit). Settles s gates (n .depth) fs (mapped t) (settled s n d p map out scratch (Found x))) (sym same) (settles-old t)
+  settles none (Found u) e = absurd (let f : Code u ≡ New = e in let x : _≡_ {A = ℕ} 0 1 = cc in omega arith)
+  settles (some t) (Free place) e = absurd (let f : New ≡ Code (literal t) = e .0 in let x : _≡_ {A = ℕ} 0 1 = cc in omega arith)
+  settles none (Free place) e = settles-new place (e .1)

@@ -1,13 +1,13 @@
 -- The walks of a circuit that has passed the checks: the lists stand for the start of the walks, and what the walks say at their end is what the
 -- definitions say of the circuit. Assumes nothing.
-use Prim.Native.Nat.{ℕ, zero, suc, _+_, _*_, _-_, _/_, _≤_}
+use Prim.Native.Nat.{ℕ, zero, suc, _+_, _*_, _-_, _/_, _<_, _≤_}
 use mathlib.Core.Path.{_≡_, refl, sym, ap, _∙_, subst, subst⁻¹}
 use mathlib.Core.Logic.{_⊎_, inl, inr}
 use mathlib.Core.Bool.{Bool, true, false, cond}
 use mathlib.Core.List.{List, [], _++_, append-nil}
 use native.Mathlib.Omega.{arith}
-use lib.ListN.{length, getD, take, drop, length-append, length-take}
-use lib.Seq.{getD-take, getD-drop}
+use lib.ListN.{length, getD, take, drop, length-append, length-take, List·getD-eq-default}
+use lib.Seq.{getD-drop}
 use Rattle.circuit.specs.Graph.{In}
 use Rattle.circuit.specs.Walk.{Work, Out, walkAll}
 use Rattle.circuit.specs.Circuit.{Circuit, net, gateOutputs, start, walked}
@@ -16,16 +16,19 @@ use Rattle.circuit.proofs.Invariant.{Sized, Inv}
 use Rattle.circuit.proofs.Lists.{In-cases, In-getD}
 use Rattle.circuit.proofs.Start.{start-inv}
 use Rattle.circuit.proofs.Words.{gates-length}
+use Rattle.circuit.proofs.Tests.{lt-or}
 use Rattle.circuit.proofs.Renumber.{Limits, sized, counting}
 use Rattle.aig.specs.declared.shape.Shape.{Shape}
 use Rattle.ending.specs.declared.Walked.{Walked}
 use Rattle.ending.specs.declared.Walked.the-variants.{Reached, Stopped}
 use Rattle.aig.specs.Table.{Tabled}
-use Rattle.aig.specs.Layout.{headsOf, nextsOf, Room}
-use Rattle.aig.specs.Chains.{Chains}
+use Rattle.aig.specs.Layout.{linksSize, linksOf, Room}
+use Rattle.aig.specs.Trie.{Trie}
 use Rattle.aig.specs.Going.{Ground, Holds}
 use Rattle.aig.specs.Walks.{Waiting, Waits, CanWalk, Walks, turns}
 use Rattle.aig.specs.Walked.{WalkReady, WalkEnds}
+use Rattle.aig.proofs.Parts.{part-at}
+use Rattle.aig.proofs.Branching.{trie-none}
 use Rattle.aig.proofs.Bounds.{word-low, output-low, next-low, root-low}
 
 module _ {l : Lent} {map out scratch : List ℕ} (k : WalkReady l map out scratch) (v : ℕ) (isWords : v ≡ circuitOf l .top + 1) where
@@ -81,15 +84,15 @@ module _ {l : Lent} {map out scratch : List ℕ} (k : WalkReady l map out scratc
         long = omega (arith, k .room, gates-length (l .gates));
       }
 
-  chains : Chains [] (headsOf shape scratch) (nextsOf shape scratch)
-  chains =
-      record {
-        head = λ hi h.
-            let e : getD (headsOf shape scratch) hi 0 ≡ 0
-            = getD-take (2 * v) (drop v scratch) hi 0 (omega (arith, length-take (2 * v) (drop v scratch))) ∙ getD-drop v scratch hi 0 ∙ clean-at hi in
-            record { within = omega arith; hit = inl e; past = λ j p q. absurd (omega arith) };
-        next = λ j h. absurd (omega arith);
-      }
+  free-at : (p : ℕ) → getD (linksOf shape scratch) p 0 ≡ 0
+  free-at p = go (lt-or p (linksSize shape))
+    where
+      go : (p < linksSize shape) ⊎ (linksSize shape ≤ p) → getD (linksOf shape scratch) p 0 ≡ 0
+      go (inl h) = part-at v (linksSize shape) scratch p h ∙ clean-at p
+      go (inr h) = List·getD-eq-default (linksOf shape scratch) 0 {n = p} (omega (arith, length-take (linksSize shape) (drop v scratch)))
+
+  trie : Trie v [] (linksOf shape scratch)
+  trie = trie-none v (linksOf shape scratch) free-at
 
   holds : Holds shape (l .gates) 0 first map out scratch
   unfolding start
@@ -102,7 +105,7 @@ module _ {l : Lent} {map out scratch : List ℕ} (k : WalkReady l map out scratc
               room = room;
               fits = omega arith;
               words = k .outs ∙ ap (λ (n : ℕ). zeros (2 * n)) all-left;
-              chains = λ on. chains;
+              trie = λ on. trie;
             };
         table = subst⁻¹ (λ (n : ℕ). Tabled (C .gates) (take n scratch)) isWords (k .table);
       }

@@ -7,7 +7,7 @@ pub mod Tabling
 pub mod Concluding
 pub mod Parts
 pub mod Accessors
-pub mod Chained
+pub mod Branching
 pub mod Finding
 pub mod Stepping
 pub mod Weighing

@@ -1,6 +1,6 @@
 -- What a walk that goes on says of the lists: their lengths, bounds of what is read, and that it goes on after a step. Assumes nothing.
 use Prim.Native.Nat.{ℕ, zero, suc, _+_, _*_, _-_, _/_, _<_}
-use mathlib.Core.Path.{_≡_, refl, sym, _∙_, ap, subst, subst₂}
+use mathlib.Core.Path.{_≡_, refl, sym, _∙_, ap, subst}
 use mathlib.Core.Bool.{Bool, true, false, cond}
 use mathlib.Core.Option.{none, some}
 use mathlib.Core.List.{List, [], _∷_, _++_}
@@ -20,9 +20,9 @@ use Rattle.circuit.proofs.Words.{gateAt, gates-length, stack-length, middle-wor
 use Rattle.aig.specs.declared.shape.Shape.{Shape}
 use Rattle.aig.specs.declared.table.GateNumber.the-variants.{Number, Nothing}
 use Rattle.aig.specs.Table as table
-use Rattle.aig.specs.Layout.{headsAt, nextsAt, stackAt, tableOf, headsOf, nextsOf, stackOf, Room}
+use Rattle.aig.specs.Layout.{linksAt, linksSize, stackAt, tableOf, linksOf, stackOf, Room}
 use Rattle.aig.specs.Stack.{middleIs}
-use Rattle.aig.specs.Chains.{Chains}
+use Rattle.aig.specs.Trie.{Trie}
 use Rattle.aig.specs.Going.{netOf, topOf, Ground, Holds, Stacked, Long}
 use Rattle.defs.specs.Define.{noGate}
 use Rattle.defs.proofs.Definitions.{gates-at}
@@ -129,11 +129,11 @@ module _ {s : Shape} {depth : ℕ} {f : Frame} {fs : List Frame} {scratch : List
             ∙ take-at (stackWords fs) (frameWord f ∷ []) (depth - 1) (omega (arith, stack-length fs, st .count));
       }
 
--- words other than those of the table and the chains may change
+-- words other than those of the table and the trie may change
 module _ {s : Shape} {gates : List ℕ} {made : ℕ} {w : Work} {map out scratch : List ℕ} (h : Holds s gates made w map out scratch) where
-  scratch-other : (ws : List ℕ) → length ws ≡ length scratch → tableOf s ws ≡ tableOf s scratch → headsOf s ws ≡ headsOf s scratch → nextsOf s ws ≡ nextsOf s scratch
+  scratch-other : (ws : List ℕ) → length ws ≡ length scratch → tableOf s ws ≡ tableOf s scratch → linksOf s ws ≡ linksOf s scratch
       → Holds s gates made w map out ws
-  scratch-other ws long t hs ns =
+  scratch-other ws long t ls =
       let m = h .gatesMade in
       record {
         images = h .images;
@@ -143,7 +143,7 @@ module _ {s : Shape} {gates : List ℕ} {made : ℕ} {w : Work} {map out scratch
               room = record { vars = m .room .vars; gates = m .room .gates; few = m .room .few; long = long ∙ m .room .long };
               fits = m .fits;
               words = m .words;
-              chains = λ on. subst₂ (λ (a b : List ℕ). Chains (w .made) a b) (sym hs) (sym ns) (m .chains on);
+              trie = λ on. subst (λ (l : List ℕ). Trie (s .vars) (w .made) l) (sym ls) (m .trie on);
             };
         table = subst (λ (l : List ℕ). table.Tabled (gatesOf gates) l) (sym t) (h .table);
       }
@@ -151,4 +151,4 @@ module _ {s : Shape} {gates : List ℕ} {made : ℕ} {w : Work} {map out scratch
   pub holds-pushed : (i v : ℕ) → Holds s gates made w map out (set scratch (stackAt s + i) v)
   holds-pushed i v =
       scratch-other (set scratch (stackAt s + i) v) (length-set scratch (stackAt s + i) v) (take-set-le (s .vars) scratch (stackAt s + i) v (omega arith))
-      (part-after (headsAt s) (2 * s .vars) scratch (stackAt s + i) v (omega arith)) (part-after (nextsAt s) (s .gates) scratch (stackAt s + i) v (omega arith))
+      (part-after (linksAt s) (linksSize s) scratch (stackAt s + i) v (omega arith))

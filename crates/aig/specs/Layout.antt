@@ -1,4 +1,4 @@
--- Where the scratch words have what: the definitions table, chain heads, chain nexts, the stack. Assumes nothing.
+-- Where the scratch words have what: the definitions table, heads and links of the trie, the stack. Assumes nothing.
 use Prim.Native.Nat.{ℕ, _+_, _*_, _<_, _≤_}
 use mathlib.Core.Path.{_≡_}
 use mathlib.Core.List.{List}
@@ -9,32 +9,32 @@ use Rattle.aig.specs.declared.shape.Shape.{Shape}
 abbrev pub part : ℕ → ℕ → List ℕ → List ℕ
 part from size ws = take size (drop from ws)
 
-abbrev pub headsAt : Shape → ℕ
-headsAt s = s .vars
+-- the table comes first, a word for each variable; then heads and links
+abbrev pub linksAt : Shape → ℕ
+linksAt s = s .vars
 
-abbrev pub nextsAt : Shape → ℕ
-nextsAt s = 3 * s .vars
+-- a head for each variable, a left link for each, and a right link for each gate. A gate k has the k-th left link: there are enough, since gates are fewer
+-- than variables (`few`, below), and so no two gates share a link (`link-within`, `link-same` of proofs/Branching)
+abbrev pub linksSize : Shape → ℕ
+linksSize s = 2 * s .vars + s .gates
 
+-- and last the stack
 abbrev pub stackAt : Shape → ℕ
 stackAt s = 3 * s .vars + s .gates
 
--- a word for each variable
+-- the definitions table
 abbrev pub tableOf : Shape → List ℕ → List ℕ
 tableOf s ws = take (s .vars) ws
 
--- a head for each code
-abbrev pub headsOf : Shape → List ℕ → List ℕ
-headsOf s ws = part (headsAt s) (2 * s .vars) ws
-
--- a next for each gate
-abbrev pub nextsOf : Shape → List ℕ → List ℕ
-nextsOf s ws = part (nextsAt s) (s .gates) ws
+-- the trie's heads and links
+abbrev pub linksOf : Shape → List ℕ → List ℕ
+linksOf s ws = part (linksAt s) (linksSize s) ws
 
 -- two entries for each gate
 abbrev pub stackOf : Shape → List ℕ → List ℕ
 stackOf s ws = part (stackAt s) (2 * s .gates) ws
 
--- the sizes are those that the checks leave, and the scratch words are as many as the parts have
+-- the sizes are those that the checks leave; gates are fewer than variables, the constant being one; and the scratch words are as many as the parts have
 pub record Room (s : Shape) (scratch : List ℕ) : Type 0 where
   pub vars : s .vars ≤ 1048576
   pub gates : s .gates ≤ 1048576

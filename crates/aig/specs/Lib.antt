@@ -1,9 +1,9 @@
 pub mod Table
 pub mod Layout
 pub mod Stack
-pub mod Chains
-pub mod Already
+pub mod Trie
 pub mod Store
+pub mod Already
 pub mod Settle
 pub mod Going
 pub mod Turns

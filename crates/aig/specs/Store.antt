@@ -1,24 +1,29 @@
--- The gates made, as the words of the lent gate list and with their chains in the scratch words. Assumes nothing.
+-- The gates made, as the words of the lent gate list and linked in the scratch words. Assumes nothing.
 use Prim.Native.Nat.{ℕ, _+_, _*_, _-_, _≤_}
 use mathlib.Core.Path.{_≡_}
-use mathlib.Core.Bool.{true}
+use mathlib.Core.Bool.{Bool, true, _&&_}
 use mathlib.Core.List.{List, _++_}
-use lib.ListN.{length, set}
+use lib.Dec.{eqb}
+use lib.ListN.{length, getD, set}
 use Rattle.lit.specs.Code.{literal}
 use Rattle.lit.specs.declared.Lit.{Lit}
 use Rattle.circuit.specs.Walk as walk
 use Rattle.circuit.specs.Outcome.{pairWords, zeros}
 use Rattle.aig.specs.declared.shape.Shape.{Shape}
 use Rattle.fold.specs.declared.Pair.{Pair}
-use Rattle.aig.specs.Layout.{Room, headsOf, nextsOf}
-use Rattle.aig.specs.Chains.{Chains}
+use Rattle.aig.specs.Layout.{Room, linksOf}
+use Rattle.aig.specs.Trie.{Trie}
 
--- the place of gate k's words
+-- where gate k's words are
+abbrev pub largerAt : ℕ → ℕ
+largerAt k = 2 * k
+
 abbrev pub smallerAt : ℕ → ℕ
 smallerAt k = 2 * k + 1
 
-abbrev pub largerAt : ℕ → ℕ
-largerAt k = 2 * k
+-- whether gate k's words are the pair
+unfoldable pub pairAt : List ℕ → ℕ → Pair → Bool
+pairAt out k p = eqb (getD out (smallerAt k) 0) (p .smaller .0) && eqb (getD out (largerAt k) 0) (p .larger .0)
 
 -- the words with gate k put in
 abbrev pub withGate : List ℕ → ℕ → Pair → List ℕ
@@ -28,9 +33,9 @@ withGate out k p = set (set out (largerAt k) (p .larger .0)) (smallerAt k) (p .s
 abbrev pub codeAt : Shape → ℕ → Lit
 codeAt s k = literal (walk.firstCode (s .sources) + 2 * k)
 
--- the gates made stand in the lent gate list, zeros after them, and with hashing they are chained
+-- the gates made stand in the lent gate list, zeros after them, and with hashing they are linked
 pub record MadeIn (s : Shape) (made : List walk.Pair) (out scratch : List ℕ) : Type 0 where
   pub room : Room s scratch
   pub fits : length made ≤ s .gates
   pub words : out ≡ pairWords made ++ zeros (2 * (s .gates - length made))
-  pub chains : s .hash ≡ true → Chains made (headsOf s scratch) (nextsOf s scratch)
+  pub trie : s .hash ≡ true → Trie (s .vars) made (linksOf s scratch)

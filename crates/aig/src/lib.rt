@@ -1,5 +1,4 @@
 // Renumbering of AIGER circuits over lent lists: literals get new codes so that a gate's code is larger than those of its inputs.
-mod chains;
 mod fit;
 mod flat;
 mod order;
@@ -7,6 +6,7 @@ mod shape;
 mod stack;
 mod store;
 mod table;
+mod trie;
 mod walk;
 mod walks;
 

@@ -1,16 +1,21 @@
 // The gates made, in the words of the lent gate list: two words a gate, the larger code first.
 ghost use mathlib.Core.Path.{_≡_};
 ghost use Prim.Native.Nat.{_+_, _*_, _<_};
-ghost use lib.ListN.{length, getD};
-ghost use Rattle.aig.specs.Store.{smallerAt, withGate};
+ghost use lib.ListN.{length};
+ghost use Rattle.aig.specs.Store.{smallerAt, pairAt, withGate};
 use fold::Pair;
 
-// The smaller code of gate k.
-pub fn smaller_at(out: &[u32], k: usize) -> u32
+// Whether gate k has this pair. Gates under one head mostly differ in the smaller code, so that comes first.
+pub fn is_at(out: &[u32], k: usize, pair: Pair) -> bool
     requires { ⌜ smallerAt k < length (now out) ⌝ }
-    ensures { λ r. ⌜ r ≡ getD (now (out .entry)) (smallerAt k) 0 ⌝ }
+    ensures { λ r. ⌜ r ≡ pairAt (now (out .entry)) k pair ⌝ }
 {
-    out[2 * k + 1]
+    let larger = pair.larger;
+    let smaller = pair.smaller;
+    if out[2 * k + 1] == smaller.code() {
+        return out[2 * k] == larger.code();
+    }
+    false
 }
 
 // Puts a gate after the `made` gates that are there.

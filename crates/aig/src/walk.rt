@@ -3,13 +3,9 @@
 ghost use mathlib.Core.Path.{_≡_};
 ghost use Prim.Native.Nat.{ℕ, _+_, _-_, _*_, _^_, _<_};
 ghost use mathlib.Core.List.{List};
-ghost use Rattle.circuit.specs.Walk as circuit-walk;
-ghost use Rattle.fold.specs.Fold.{alreadyOf};
-ghost use Rattle.aig.specs.Already.{madeIf, alreadyIn};
-ghost use Rattle.aig.specs.Store.{MadeIn};
-ghost use Rattle.aig.specs.Settle.{numbers, left, settled, CanSettle};
+ghost use Rattle.aig.specs.Already.{madeIf, alreadyIn, CanSeek, Answers};
+ghost use Rattle.aig.specs.Settle.{numbers, SettledIn, CanSettle};
 ghost use Rattle.aig.specs.Turns.{Walking, Turns, Runs};
-use crate::chains;
 use crate::flat;
 use crate::shape::Shape;
 use crate::stack;
@@ -17,6 +13,8 @@ use crate::stack::Frame;
 use crate::store;
 use crate::table;
 use crate::table::GateNumber;
+use crate::trie;
+use crate::trie::Search;
 use circuit::Image;
 use circuit::Refusal;
 use ending::Walked;
@@ -176,19 +174,24 @@ impl Walk {
         scratch: &mut [u32],
     ) -> State
         requires { ⌜ CanSettle shape self pair (now out) (now scratch) ⌝ }
-        ensures { λ r. ⌜ ((made : List circuit-walk.Pair) → MadeIn shape made (now (out .entry)) (now (scratch .entry)) → left r (now (map .exit)) (now (out .exit)) (now (scratch .exit)) ≡ settled shape self output pair (now (map .entry)) (now (out .entry)) (now (scratch .entry)) (alreadyOf (alreadyIn shape made pair))) ⌝ }
+        ensures { λ r. ⌜ SettledIn shape self output pair (now (map .entry)) (now (out .entry)) (now (scratch .entry)) (record {
+          state = r;
+          map = now (map .exit);
+          out = now (out .exit);
+          scratch = now (scratch .exit);
+        }) ⌝ }
     {
-        let already = already(shape, pair, out, scratch);
-        match already {
-            Already::Code(t) => {
+        let search = already(shape, pair, out, scratch);
+        match search {
+            Search::Found(t) => {
                 map::insert(map, output, t);
                 State::Return(self)
             }
             // the one place where a gate is made
-            Already::New => {
-                chains::link_if(shape, self.made, pair, scratch);
+            Search::Free(place) => {
+                trie::link_if(shape, self.made, place, scratch);
                 store::append(out, self.made, pair);
-                map::insert(map, output, chains::code_at(shape, self.made));
+                map::insert(map, output, trie::code_at(shape, self.made));
                 State::Return(self.with_gate())
             }
         }
@@ -211,26 +214,28 @@ impl Walk {
     }
 }
 
-// The code that stands for a gate already, as the flags allow it: folding first, then a gate made.
-fn already(shape: Shape, pair: Pair, out: &[u32], scratch: &[u32]) -> Already
-    requires { ⌜ (pair .larger .0 < 2 * shape .vars) × ((made : List circuit-walk.Pair) × MadeIn shape made (now out) (now scratch)) ⌝ }
-    ensures { λ r. ⌜ ((made : List circuit-walk.Pair) → MadeIn shape made (now (out .entry)) (now (scratch .entry)) → r ≡ alreadyOf (alreadyIn shape made pair)) ⌝ }
+// The code that stands for a gate already, as the flags allow it: folding first, then a gate made. If there is none, the place for the gate.
+fn already(shape: Shape, pair: Pair, out: &[u32], scratch: &[u32]) -> Search
+    requires { ⌜ CanSeek shape pair (now out) (now scratch) ⌝ }
+    ensures { λ r. ⌜ Answers alreadyIn shape pair (now (out .entry)) (now (scratch .entry)) r ⌝ }
 {
     let folded = pair.folded_if(shape.fold);
     match folded {
-        Already::Code(t) => Already::Code(t),
+        Already::Code(t) => Search::Found(t),
         Already::New => found_if(shape, pair, out, scratch),
     }
 }
 
-fn found_if(shape: Shape, pair: Pair, out: &[u32], scratch: &[u32]) -> Already
-    requires { ⌜ (pair .larger .0 < 2 * shape .vars) × ((made : List circuit-walk.Pair) × MadeIn shape made (now out) (now scratch)) ⌝ }
-    ensures { λ r. ⌜ ((made : List circuit-walk.Pair) → MadeIn shape made (now (out .entry)) (now (scratch .entry)) → r ≡ alreadyOf (madeIf shape made pair)) ⌝ }
+// The same without folding: a gate is looked for where hashing is on.
+fn found_if(shape: Shape, pair: Pair, out: &[u32], scratch: &[u32]) -> Search
+    requires { ⌜ CanSeek shape pair (now out) (now scratch) ⌝ }
+    ensures { λ r. ⌜ Answers madeIf shape pair (now (out .entry)) (now (scratch .entry)) r ⌝ }
 {
     if shape.hash {
-        return chains::find(shape, pair, out, scratch);
+        return trie::find(shape, pair, out, scratch);
     }
-    Already::New
+    // without hashing nothing is linked
+    Search::Free(0)
 }
 
 // Walks from a state to the end.

@@ -1,7 +1,7 @@
 //! A real file: renumbered by the port and by the crate as it stands and renamed at random, with all flags, and written again as the port ordered it.
 use crate::{
     aiger::{self, File},
-    outcome::{by_crate, by_port, Lists, Outcome},
+    outcome::{by_crate, by_port, difference, Lists, Outcome},
 };
 use judge::{circuit::Circuit, random::Random};
 use std::{fs, path::Path, process::exit};
@@ -41,21 +41,6 @@ fn one(file: &File, circuit: &Circuit, order: &str, flags: u64, folder: &str) ->
     let path = Path::new(folder).join(format!("{order}-{flags}.aig"));
     fs::write(path, aiger::write(&ordered)).expect("the file can be written");
     port.words[1]
-}
-
-/// Where two outcomes differ first: the answers, or a word of a list. A circuit of a file is too large to be shrunk.
-fn difference(port: Outcome, judge: Outcome) -> String {
-    if (port.number, port.words) != (judge.number, judge.words) {
-        return format!("the port answers {} {:?}, the crate {} {:?}", port.number, port.words, judge.number, judge.words);
-    }
-    let lists = |Lists { map, next_images, root_images, gates_out, scratch }| [map, next_images, root_images, gates_out, scratch];
-    let names = ["map", "next_images", "root_images", "gates_out", "scratch"];
-    for ((one, other), name) in lists(port.lists).into_iter().zip(lists(judge.lists)).zip(names) {
-        if let Some(word) = (0..one.len()).find(|&word| one[word] != other[word]) {
-            return format!("{name}[{word}]: the port {}, the crate {}", one[word], other[word]);
-        }
-    }
-    unreachable!("equal outcomes")
 }
 
 /// The circuit that an outcome of success describes.

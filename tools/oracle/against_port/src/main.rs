@@ -2,6 +2,7 @@
 //!
 //!     against_port small                         every circuit of up to two gates: all codes, roots, flags
 //!     against_port random SEED COUNT MAXGATES    random circuits of every kind, lent lists of every length near the needed one
+//!     against_port sharing SEED COUNT MAXGATES   random circuits in which many gates share a few nodes; one in eight with a fault
 //!     against_port large                         the limits and one over, a long chain, a full stack, a wide fan-out
 //!     against_port file FILE FOLDER SEED         an AIGER file in three orders, with all flags; writes FOLDER/ORDER-FLAGS.aig as the port ordered it
 //!     against_port flip FILE WHICH TO            the file with one literal flipped: of a next state, a root or a gate (WHICH)
@@ -30,7 +31,11 @@ impl Tally {
         let lists = Lists::lent(circuit, spare);
         let (port, judge) = (by_port(circuit, lists.clone()), by_crate(circuit, lists));
         if port != judge {
-            show(&shrink::smallest(circuit.clone(), differ), spare);
+            // what is too large to be shrunk is told by its sizes and its first word
+            match circuit.codes().len() {
+                0..=10_000 => show(&shrink::smallest(circuit.clone(), differ), spare),
+                _ => println!("DIFFERS, with the header {:?}: {}", circuit.header(), outcome::difference(port, judge)),
+            }
             exit(1);
         }
         *self.answers.entry(port.number).or_default() += 1;
@@ -59,12 +64,13 @@ fn main() {
     let mut tally = Tally::default();
     match arguments[..] {
         ["small"] => small(&mut tally),
-        ["random", s, c, g] => random(&mut tally, Random(number(s)), number(c), number(g)),
+        ["random", s, c, g] => random(&mut tally, Random(number(s)), number(c), number(g), of_every_kind),
+        ["sharing", s, c, g] => random(&mut tally, Random(number(s)), number(c), number(g), sharing),
         ["large"] => large(&mut tally),
         ["file", path, folder, seed] => return file::compare(path, folder, number(seed)),
         ["flip", path, which, to] => return file::flip(path, which, to),
         _ => {
-            eprintln!("usage: against_port small | random SEED COUNT MAXGATES | large | file FILE FOLDER SEED | flip FILE WHICH TO");
+            eprintln!("usage: against_port small | random SEED COUNT MAXGATES | sharing SEED COUNT MAXGATES | large | file FILE FOLDER SEED | flip FILE WHICH TO");
             exit(2)
         }
     }
@@ -113,12 +119,26 @@ fn every(tally: &mut Tally, gates: u32, latches: u32, flags: u64) {
     }
 }
 
-fn random(tally: &mut Tally, mut random: Random, count: u64, gates: u64) {
+fn of_every_kind(random: &mut Random, gates: u64) -> Circuit {
+    let mut circuit = circuit_kinds::valid(random, gates);
+    let (_, _, fault) = random.pick(&circuit_kinds::FAULTS);
+    fault(random, &mut circuit);
+    circuit
+}
+
+fn sharing(random: &mut Random, gates: u64) -> Circuit {
+    let mut circuit = circuit_kinds::sharing(random, gates);
+    if random.below(8) == 0 {
+        let (_, _, fault) = random.pick(&circuit_kinds::FAULTS);
+        fault(random, &mut circuit);
+    }
+    circuit
+}
+
+fn random(tally: &mut Tally, mut random: Random, count: u64, gates: u64, make: fn(&mut Random, u64) -> Circuit) {
     let mut made = 0;
     while made < count {
-        let mut circuit = circuit_kinds::valid(&mut random, gates);
-        let (_, _, fault) = random.pick(&circuit_kinds::FAULTS);
-        fault(&mut random, &mut circuit);
+        let circuit = make(&mut random, gates);
         if circuit.codes().iter().any(|&code| code > u32::MAX as u64) {
             continue;
         }
@@ -131,7 +151,8 @@ fn random(tally: &mut Tally, mut random: Random, count: u64, gates: u64) {
     }
 }
 
-/// Circuits at the limits: each size at 1,048,575 and one over, a chain from its far end, the stack filled, one node used by all.
+/// Circuits at the limits: each size at 1,048,575 and one over, a chain from its far end, the stack filled, one node used by all, one node that is the larger
+/// input of as many different gates as there can be.
 fn large(tally: &mut Tally) {
     const LIMIT: u64 = 1_048_575;
     let chain = |gates: u64, last: u64, root: u64, flags: u64| Circuit {
@@ -213,6 +234,29 @@ fn large(tally: &mut Tally) {
                 [1; 5],
             );
         }
+    }
+    // the last of the inputs, with either sign, is the larger input of gates with these smaller ones
+    let under = |sources: u64, pairs: &[(u64, u64)], flags: u64| Circuit {
+        largest: sources + pairs.len() as u64,
+        inputs: (1..=sources).map(|v| 2 * v).collect(),
+        gates: (sources + 1..).zip(pairs).map(|(v, &(sign, smaller))| [2 * v, smaller, 2 * sources + sign]).collect(),
+        flags,
+        ..Circuit::default()
+    };
+    for flags in 0..8 {
+        // over 524,287 other inputs; over both signs of 262,144, and then the oldest gate again and again
+        let many: Vec<(u64, u64)> = (1..LIMIT / 2).map(|v| (0, 2 * v)).collect();
+        tally.compare(&under(LIMIT / 2 + 1, &many, flags), [1; 5]);
+        let mut both: Vec<(u64, u64)> = (1..262_144).flat_map(|v| [(0, 2 * v), (1, 2 * v + 1)]).collect();
+        both.resize((LIMIT - 262_144) as usize, (0, 2));
+        tally.compare(&under(262_144, &both, flags), [1; 5]);
+        // keys that agree with one of 22 bits in ever more of them, that one itself, its twin with the other sign, and all of them again
+        let (sign, smaller) = (flags % 2, 0x15_5554 + flags);
+        let mut deep: Vec<(u64, u64)> = (0..21).map(|bit| (sign, smaller ^ 1 << bit)).collect();
+        deep.insert(0, (1 - sign, smaller ^ 1));
+        deep.extend([(sign, smaller), (1 - sign, smaller)]);
+        deep.extend(deep.clone());
+        tally.compare(&under(LIMIT - 48, &deep, flags), [1; 5]);
     }
     for gates in [1, 2, 3, 10, 1_000, LIMIT] {
         // a cycle that fills the stack of 2G entries: a chain into a gate that feeds itself negated

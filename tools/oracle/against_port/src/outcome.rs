@@ -68,6 +68,21 @@ impl Lists {
     }
 }
 
+/// Where two outcomes differ first: the answers, or a word of a list.
+pub fn difference(port: Outcome, judge: Outcome) -> String {
+    if (port.number, port.words) != (judge.number, judge.words) {
+        return format!("the port answers {} {:?}, the crate {} {:?}", port.number, port.words, judge.number, judge.words);
+    }
+    let lists = |Lists { map, next_images, root_images, gates_out, scratch }| [map, next_images, root_images, gates_out, scratch];
+    let names = ["map", "next_images", "root_images", "gates_out", "scratch"];
+    for ((one, other), name) in lists(port.lists).into_iter().zip(lists(judge.lists)).zip(names) {
+        if let Some(word) = (0..one.len()).find(|&word| one[word] != other[word]) {
+            return format!("{name}[{word}]: the port {}, the crate {}", one[word], other[word]);
+        }
+    }
+    unreachable!("equal outcomes")
+}
+
 /// A circuit's lists as the port takes them. Every code must fit 32 bits.
 struct Flat {
     counts: [u32; 5],

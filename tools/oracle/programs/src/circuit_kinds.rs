@@ -1,4 +1,4 @@
-//! Random circuits: one that passes every check, and what can be done to it.
+//! Random circuits: one that passes every check, one that shares a few nodes heavily, and what can be done to either.
 use crate::{circuit::Circuit, random::Random};
 
 type Fault = fn(&mut Random, &mut Circuit);
@@ -71,6 +71,76 @@ pub fn of_sizes(random: &mut Random, i: u64, l: u64, g: u64, roots: [u64; 5]) ->
         gates,
         roots: roots.map(|length| (0..length).map(&mut used).collect()),
         flags: random.below(8),
+    }
+}
+
+/// Where the nodes that many gates share stand among the variables, and so whether they are the larger inputs or the smaller ones.
+#[derive(Clone, Copy)]
+enum Hubs {
+    /// The first sources: smaller than all else.
+    FirstSources,
+    /// The last sources: larger than all other sources.
+    LastSources,
+    /// The first gates: larger than all sources, smaller than most gates.
+    FirstGates,
+}
+
+/// A circuit that passes every check and in which one of a few nodes is an input in nearly every second place, with either sign; in some every other
+/// input is a source, in some sources whose codes agree in their low bits, and in some many pairs are repeated, with their inputs exchanged or a sign flipped.
+pub fn sharing(random: &mut Random, gates: u64) -> Circuit {
+    let sources = random.pick(&[1, 3, 8, gates / 2 + 2, gates + 2, 2 * gates + 2]);
+    let latches = random.bit() * random.below(sources);
+    let gates = gates - random.below(gates / 4 + 1);
+    let largest = sources + gates;
+    let mut names: Vec<u64> = (1..=largest).collect();
+    if random.percent(70) {
+        random.shuffle(&mut names);
+    }
+    let count = random.between(1, 4).min(sources);
+    let first = match random.pick(&[Hubs::FirstSources, Hubs::LastSources, Hubs::FirstGates]) {
+        Hubs::FirstSources => 0,
+        Hubs::LastSources => sources - count,
+        Hubs::FirstGates => sources,
+    };
+    let (shared, constants, over_sources) = (random.pick(&[40, 48, 100]), random.pick(&[0, 0, 5]), random.bit() == 1);
+    let (stride, repeated) = (1 << random.below(8), random.pick(&[0, 10, 40]));
+    let mut listed: Vec<[u64; 3]> = vec![];
+    for index in sources..largest {
+        let sign = random.bit();
+        let hub = 2 * names[random.between(first, first + count - 1).min(index - 1) as usize] + sign;
+        let bound = if over_sources { sources } else { index };
+        let any = random.below(bound);
+        let spread = if stride < bound { any / stride * stride } else { any };
+        let other = match random.percent(constants) {
+            true => random.bit(),
+            false => 2 * names[spread as usize] + random.bit(),
+        };
+        let mut pair = [if random.percent(2 * shared) { hub } else { 2 * names[any as usize] + sign }, other];
+        if !listed.is_empty() && random.percent(repeated) {
+            let [_, one, two] = random.pick(&listed);
+            pair = [one, two];
+            if random.percent(30) {
+                pair[random.index(2)] ^= 1;
+            }
+        }
+        if random.bit() == 1 {
+            pair.swap(0, 1);
+        }
+        listed.push([2 * names[index as usize], pair[0], pair[1]]);
+    }
+    if random.bit() == 1 {
+        random.shuffle(&mut listed);
+    }
+    let code = |index: u64| 2 * names[index as usize];
+    let roots = [(); 5].map(|()| random.bit() * random.below(5));
+    let mut used = |_| draw(random, &names, Style::Anywhere, constants);
+    Circuit {
+        largest,
+        inputs: (0..sources - latches).map(code).collect(),
+        latches: (sources - latches..sources).map(|index| [code(index), used(0)]).collect(),
+        gates: listed,
+        roots: roots.map(|length| (0..length).map(&mut used).collect()),
+        flags: random.below(8) | random.pick(&[0, 2, 2, 2]),
     }
 }
 

@@ -1,10 +1,8 @@
 -- `already`: the first of two answers that there is. Assumes nothing.
+use mathlib.Core.Path.{sym, _∙_}
+use Rattle.aig.proofs.Settling.{says-folded, says-unfolded}
 use Rattle.aig.proofs.walk.already.Statement.{statement}
 use Rattle.aig.proofs.walk.already.Tie as tie
-use mathlib.Core.Path.{sym, _∙_}
-use Rattle.fold.proofs.Folds.{first-stands, second-stands}
-use Rattle.circuit.specs.Walk.{foldedIf}
-use Rattle.aig.specs.Already.{madeIf}
 
 folded-if-requires : tie.Need-folded-if-requires
 folded-if-requires c κs = tt
@@ -21,12 +19,13 @@ found-if-requires c κs = c .before .before .before .before .before .pre
 returns : tie.Need-returns
 returns c =
     let a = c .before .before .before .before .before .before .args in
-    λ made m. first-stands (foldedIf (a .shape .fold) (a .pair .larger .0) (a .pair .smaller .0)) (madeIf (a .shape) made (a .pair)) _ (sym (c .before .folded .given .1) ∙ c .before .before .before .folded-if .ensures)
+    λ made m. says-folded (a .shape) made (a .pair) (a .scratch .now) _ (sym (c .before .folded .given .1) ∙ c .before .before .before .folded-if .ensures)
 
 returns-2 : tie.Need-returns-2
 returns-2 c =
     let a = c .before .before .before .before .before .before .args in
-    λ made m. second-stands (foldedIf (a .shape .fold) (a .pair .larger .0) (a .pair .smaller .0)) (madeIf (a .shape) made (a .pair)) (c .found-if .result) (sym (c .before .enum-told .given .1) ∙ c .before .before .before .folded-if .ensures) (c .found-if .ensures made m)
+    λ made m. says-unfolded (a .shape) made (a .pair) (a .scratch .now) (c .found-if .result)
+    (sym (c .before .enum-told .given .1) ∙ c .before .before .before .folded-if .ensures) (c .found-if .ensures made m)
 
 pub already-spec : {M : Type 1} → statement M
 already-spec =

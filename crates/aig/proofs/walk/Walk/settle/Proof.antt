@@ -1,47 +1,55 @@
--- `Walk::settle`: what stands for the gate already decides; a gate made leaves what four calls leave. Assumes nothing.
-use Rattle.aig.proofs.walk.Walk.settle.Statement.{statement}
-use Rattle.aig.proofs.walk.Walk.settle.Tie as tie
+-- `Walk::settle`: what a search says decides; a gate made leaves what four calls leave. Assumes nothing.
 use native.Mathlib.Omega.{arith}
 use mathlib.Core.Path.{refl}
-use Rattle.aig.proofs.Settling.{settled-by-code, settled-by-gate}
+use Rattle.aig.proofs.Settling.{free-within, settled-by-code, settled-by-gate}
 use Rattle.aig.proofs.Finding.{out-length}
+use borrow.Author.Needs.{needs}
+use Rattle.aig.proofs.walk.Walk.settle.Statement.{statement}
+use Rattle.aig.proofs.walk.Walk.settle.Tie as tie
 
 already-requires : tie.Need-already-requires
 already-requires c κs =
-    let p = c .before .before .before .before .before .pre in
-    (p .larger, (p .made, p .madeIn))
+    let entry = c .before .before .before .before .before in
+    entry .pre .seek
 
-enum-known-already : tie.Need-enum-known-already
-enum-known-already c = c .match .keys1
+enum-known-search : tie.Need-enum-known-search
+enum-known-search c = c .match .keys1
 
 insert-requires : tie.Need-insert-requires
 insert-requires c κs = tt
 
-enum-told : tie.Need-enum-told
-enum-told c = c .match .keys2
+enum-known-search-2 : tie.Need-enum-known-search-2
+enum-known-search-2 c = c .match .keys2
 
 link-if-requires : tie.Need-link-if-requires
 link-if-requires c κs =
-    let p = c .before .before .before .before .before .before .before .before .before .pre in
-    (p .madeIn .room, p .fits, p .larger)
+    let known = c .before .before in
+    let searched = known .before .before in
+    let entry = searched .before .before .before .before .before .before in
+    let a = entry .args in
+    let seek = entry .pre .seek in
+    let found = searched .already in (
+      seek .madeIn .room,
+      entry .pre .fits,
+      free-within (a .shape) (seek .made) (a .pair) (a .scratch .now) (a .out .now) (seek .madeIn) _ (found .result) _
+          (found .ensures (seek .made) (seek .madeIn)) (known .search2 .given .1),
+    )
 
 append-requires : tie.Need-append-requires
 append-requires c κs =
-    let p = c .before .before .before .before .before .before .before .before .before .before .before .before .before .pre in
-    omega (arith, out-length _ _ _ _ (p .madeIn), p .fits)
+    let linked = c .before .before .before .before in
+    let searched = linked .before .before .before .before in
+    let entry = searched .before .before .before .before .before .before in
+    omega (arith, out-length _ _ _ _ (entry .pre .seek .madeIn), entry .pre .fits)
 
 code-at-requires : tie.Need-code-at-requires
-code-at-requires c κs =
-    let p = c .before .before .before .before .before .before .before .before .before .before .before .before .before .before .before .before .before .pre in
-    (omega (arith, p .madeIn .room .few, p .madeIn .room .vars), omega (arith, p .madeIn .room .gates, p .fits))
+code-at-requires c κs = search needs
 
 insert-requires-2 : tie.Need-insert-requires-2
 insert-requires-2 c κs = tt
 
 with-gate-requires : tie.Need-with-gate-requires
-with-gate-requires c κs =
-    let p = c .before .before .before .before .before .before .before .before .before .before .before .before .before .before .before .before .before .before .before .before .before .pre in
-    omega (arith, p .madeIn .room .gates, p .fits)
+with-gate-requires c κs = search needs
 
 same-length : tie.Need-same-length
 same-length c = c .before .before .insert .kept .0
@@ -54,31 +62,45 @@ same-length-3 c = refl
 
 returns : tie.Need-returns
 returns c =
-    let a = c .before .before .before .before .before .before .before .before .before .before .before .before .before .args in
-    λ made m. settled-by-code (a .shape) (a .self) (a .output) (a .pair) (a .map .now) (a .out .now) (a .scratch .now) (c .before .before .before .before .before .before .before .already .result) _ _ _ (c .before .before .before .before .before .already2 .given .1) (c .before .before .before .before .before .before .before .already .ensures made m) (c .before .before .insert .ensures)
+    let inserted = c .before .before in
+    let known = inserted .before .before .before in
+    let searched = known .before .before in
+    let called = searched .already in
+    let a = searched .before .before .before .before .before .before .args in
+    λ made m. settled-by-code (a .shape) (a .self) (a .output) (a .pair) made (a .map .now) (a .out .now) (a .scratch .now) (called .result)
+    (called .ensures made m) _ _ (known .search .given .1) (inserted .insert .ensures)
 
 same-length-4 : tie.Need-same-length-4
-same-length-4 c = c .before .before .before .insert2 .kept .0
+same-length-4 c = search needs
 
 same-length-5 : tie.Need-same-length-5
-same-length-5 c = c .before .before .before .before .before .before .before .before .append .kept .0
+same-length-5 c = search needs
 
 same-length-6 : tie.Need-same-length-6
-same-length-6 c = c .before .before .before .before .before .before .before .before .before .before .before .before .link-if .kept .1 .1 .1 .0
+same-length-6 c = search needs
 
 returns-2 : tie.Need-returns-2
 returns-2 c =
-    let a = c .before .before .before .before .before .before .before .before .before .before .before .before .before .before .before .before .before .before .before .before .before .before .args in
-    λ made m. settled-by-gate (a .shape) (a .self) (a .output) (a .pair) (a .map .now) (a .out .now) (a .scratch .now) (c .before .before .before .before .before .before .before .before .before .before .before .before .before .before .before .before .already .result) _ (c .with-gate .result) (c .before .before .before .before .code-at .result) _ _ _ (c .before .before .before .before .before .before .before .before .before .before .before .before .before .before .enum-told .given .1) (c .before .before .before .before .before .before .before .before .before .before .before .before .before .before .before .before .already .ensures made m) (c .with-gate .ensures) (c .before .before .before .before .code-at .ensures) (c .before .before .before .insert2 .ensures) (c .before .before .before .before .before .before .before .before .append .ensures) (c .before .before .before .before .before .before .before .before .before .before .before .before .link-if .ensures)
+    let inserted = c .before .before .before in
+    let coded = inserted .before in
+    let appended = coded .before .before .before .before in
+    let linked = appended .before .before .before .before in
+    let known = linked .before .before .before in
+    let searched = known .before .before in
+    let called = searched .already in
+    let a = searched .before .before .before .before .before .before .args in
+    λ made m. settled-by-gate (a .shape) (a .self) (a .output) (a .pair) made (a .map .now) (a .out .now) (a .scratch .now) (called .result)
+    (called .ensures made m) _ (c .with-gate .result) (coded .code-at .result) _ _ _ (known .search2 .given .1) (c .with-gate .ensures)
+    (coded .code-at .ensures) (inserted .insert2 .ensures) (appended .append .ensures) (linked .link-if .ensures)
 
 pub settle-spec : {M : Type 1} → statement M
 settle-spec =
     tie.close
     (tie.spec
     already-requires
-    enum-known-already
+    enum-known-search
     insert-requires
-    enum-told
+    enum-known-search-2
     link-if-requires
     append-requires
     code-at-requires

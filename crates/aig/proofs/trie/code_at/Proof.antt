@@ -1,6 +1,6 @@
--- `chains::code_at`: the code is the first free one and two for each gate before. Assumes nothing.
-use Rattle.aig.proofs.chains.code_at.Statement.{statement}
-use Rattle.aig.proofs.chains.code_at.Tie as tie
+-- `trie::code_at`: the code is the first free one and two for each gate before. Assumes nothing.
+use Rattle.aig.proofs.trie.code_at.Statement.{statement}
+use Rattle.aig.proofs.trie.code_at.Tie as tie
 use native.Mathlib.Omega.{arith}
 use mathlib.Core.Path.{ap, _∙_}
 use Rattle.lit.specs.Code.{literal}
