@@ -35,7 +35,8 @@ find-gate k (p ∷ ps) j h = go j h (eqb (2 * k / 2) (k + j)) (sameTest (2 * k /
 
     go : (j : ℕ) → j < length (p ∷ ps) → (b : Bool) → Same (2 * k / 2) (k + j) b
         → ((i : ℕ) → i < length ps → gateFor (gatesFrom (2 * suc k) ps) (suc k + i) ≡ some (gateAt (2 * suc k) ps i))
-        → cond b (some (record { output = 2 * k; first = p .larger; second = p .smaller })) (gateFor (gatesFrom (2 * k + 2) ps) (k + j)) ≡ some (gateAt (2 * k) (p ∷ ps) j)
+        → cond b (some (record { output = 2 * k; first = p .larger; second = p .smaller })) (gateFor (gatesFrom (2 * k + 2) ps) (k + j)) ≡ some
+        (gateAt (2 * k) (p ∷ ps) j)
     go zero h true s rec = let z : 2 * k ≡ 2 * k + 2 * 0 = omega arith in ap (λ (o : ℕ). some (record { output = o; first = p .larger; second = p .smaller })) z
     go zero h false (other n) rec = absurd (n (omega arith))
     go (suc j) h true (same n) rec = absurd (omega arith)
@@ -48,11 +49,14 @@ find-gate k (p ∷ ps) j h = go j h (eqb (2 * k / 2) (k + j)) (sameTest (2 * k /
 -- a literal with an image is walked at once
 walk-mapped : (N : Net) (room : ℕ) (path : List ℕ) (w : Work) (c t : ℕ) → imageIn (w .images) c ≡ Code (literal t) → walk N room path w c ≡ reached w
 unfolding walk look
-walk-mapped N zero path w c t e = ap (λ (x : Image). answer (lookAt c x (isMiddle path c) (gateFor (N .graph .gates) (var c))) w (λ g. stopped (Deep (literal c)))) e
+walk-mapped N zero path w c t e =
+    ap (λ (x : Image). answer (lookAt c x (isMiddle path c) (gateFor (N .graph .gates) (var c))) w (λ g. stopped (Deep (literal c)))) e
 walk-mapped N (suc room) path w c t e =
-    ap (λ (x : Image). answer (lookAt c x (isMiddle path c) (gateFor (N .graph .gates) (var c))) w (λ g. throughInputs N (λ w′ c′. walk N room (path ++ (c ∷ [])) w′ c′) g w)) e
+    ap (λ (x : Image). answer (lookAt c x (isMiddle path c) (gateFor (N .graph .gates) (var c))) w
+    (λ g. throughInputs N (λ w′ c′. walk N room (path ++ (c ∷ [])) w′ c′) g w)) e
 
-module _ (N : Net) (ps : List Pair) (gates-are : N .graph .gates ≡ gatesFrom (firstCode (sourceCount N)) ps) (few : nextCode (sourceCount N) ps ≤ noImage) (order : InOrder (sourceCount N) ps)
+module _ (N : Net) (ps : List Pair) (gates-are : N .graph .gates ≡ gatesFrom (firstCode (sourceCount N)) ps)
+    (few : nextCode (sourceCount N) ps ≤ noImage) (order : InOrder (sourceCount N) ps)
     (fresh : (j : ℕ) → j < length ps → already N (take j ps) (getD ps j noPair .larger) (getD ps j noPair .smaller) ≡ none) where
   -- the first variable of a gate
   abbrev base : ℕ
@@ -123,9 +127,12 @@ module _ (N : Net) (ps : List Pair) (gates-are : N .graph .gates ≡ gatesFrom (
         let c : ℕ = g .output in
         let e : imageIn (w .images) c ≡ Absent = no-image (w .images) c (i .high (var c) out-high) in
         let rec : Work → ℕ → Out = λ w₁ c₁. walk N room (c ∷ []) w₁ c₁ in
-        ap₂ (λ (x : Image) (y : Option Gate). answer (lookAt c x false y) w (λ g₁. andThen (rec w (g₁ .first)) (λ w₁. andThen (rec w₁ (g₁ .second)) (λ w₂. reached (settle N w₂ g₁))))) e found-gate
-        ∙ ap (λ (o : Out). andThen o (λ w₁. andThen (rec w₁ lo) (λ w₂. reached (settle N w₂ g)))) (walk-mapped N room (c ∷ []) w hi hi (mapped-itself hi (order j h .1)))
-        ∙ ap (λ (o : Out). andThen o (λ w₂. reached (settle N w₂ g))) (walk-mapped N room (c ∷ []) w lo lo (mapped-itself lo (omega (arith, order j h .0, order j h .1))))
+        ap₂ (λ (x : Image) (y : Option Gate). answer (lookAt c x false y) w
+        (λ g₁. andThen (rec w (g₁ .first)) (λ w₁. andThen (rec w₁ (g₁ .second)) (λ w₂. reached (settle N w₂ g₁))))) e found-gate
+        ∙ ap (λ (o : Out). andThen o (λ w₁. andThen (rec w₁ lo) (λ w₂. reached (settle N w₂ g))))
+        (walk-mapped N room (c ∷ []) w hi hi (mapped-itself hi (order j h .1)))
+        ∙ ap (λ (o : Out). andThen o (λ w₂. reached (settle N w₂ g)))
+        (walk-mapped N room (c ∷ []) w lo lo (mapped-itself lo (omega (arith, order j h .0, order j h .1))))
         ∙ ap reached settled-new
 
     low′ : (v : ℕ) → v < base + suc j → (v < base + j) ⊎ (base + j ≤ v) → entry (w′ .images) v ≡ 2 * v
@@ -164,8 +171,10 @@ module _ (N : Net) (ps : List Pair) (gates-are : N .graph .gates ≡ gatesFrom (
       let r = again n (suc j) (omega arith) (w′ w j h i) (next-itself w j h i) in
       let z : firstCode (sourceCount N) + 2 * j + 2 ≡ firstCode (sourceCount N) + 2 * suc j = omega arith in (
         r .0,
-        ap (λ (k : ℕ). andThen (walk N k [] w (firstCode (sourceCount N) + 2 * j)) (λ w₁. walkAll N (countFrom (firstCode (sourceCount N) + 2 * j + 2) n) w₁)) room
-            ∙ ap (λ (o : Out). andThen o (λ w₁. walkAll N (countFrom (firstCode (sourceCount N) + 2 * j + 2) n) w₁)) (walked-new w j h i (2 * length (N .graph .gates) - 1))
+        ap (λ (k : ℕ). andThen (walk N k [] w (firstCode (sourceCount N) + 2 * j))
+            (λ w₁. walkAll N (countFrom (firstCode (sourceCount N) + 2 * j + 2) n) w₁)) room
+            ∙ ap (λ (o : Out). andThen o (λ w₁. walkAll N (countFrom (firstCode (sourceCount N) + 2 * j + 2) n) w₁))
+            (walked-new w j h i (2 * length (N .graph .gates) - 1))
             ∙ ap (λ (t : ℕ). walkAll N (countFrom t n) (w′ w j h i)) z ∙ r .1,
         r .2,
       )

@@ -44,7 +44,8 @@ module _ (N : Net) (m : List ℕ) (made : List Pair) (r : Rule N m made) (order 
   alike c d e =
       val-flipped (sourceCount N) given made (entry m (var c)) c
       ∙ ap (λ (v : ℕ). flipIf (isOdd c) (bit (entry m v))) e
-      ∙ ap (flipIf (isOdd c)) (sym (flipIf-twice (isOdd d) (bit (entry m (var d)))) ∙ ap (flipIf (isOdd d)) (sym (val-flipped (sourceCount N) given made (entry m (var d)) d)))
+      ∙ ap (flipIf (isOdd c)) (sym (flipIf-twice (isOdd d) (bit (entry m (var d))))
+      ∙ ap (flipIf (isOdd d)) (sym (val-flipped (sourceCount N) given made (entry m (var d)) d)))
 
   -- the larger and the smaller of two have the AND of the two
   and-sorted : (a b : ℕ) → bit (max a b) && bit (min a b) ≡ bit a && bit b
@@ -101,7 +102,8 @@ module _ (N : Net) (m : List ℕ) (made : List Pair) (r : Rule N m made) (order 
       ∙ ap (λ (t : ℕ). flipIf (isOdd c) (bit t)) (ap (entry m) e ∙ r .zero-code)
       ∙ ap (flipIf (isOdd c)) (val-zero (sourceCount N) given made) ∙ flipIf-false (isOdd c) ∙ sym f
   keeps {c} {b} (bySource k h e f) n =
-      alike c (getD (N .graph .sources) k 0) e ∙ ap (like c (getD (N .graph .sources) k 0)) (ap bit (r .source-codes k h) ∙ val-source (sourceCount N) given made k h) ∙ sym f
+      alike c (getD (N .graph .sources) k 0) e ∙ ap (like c (getD (N .graph .sources) k 0))
+      (ap bit (r .source-codes k h) ∙ val-source (sourceCount N) given made k h) ∙ sym f
   keeps {c} {b} (byGate g x y i e mx my f) n =
       let q = r .gate-images g i (subst (λ (v : ℕ). entry m v ≢ noImage) e n) in
       let a : ℕ = codeIn m (g .first) in
