@@ -3,14 +3,24 @@
  *
  * Each function is proved to keep the promises written here, on every input that meets these two duties of the caller:
  *   - a pointer and the length after it name that many elements, bytes or words of 32 bits, which nothing else writes during the call; the
- *     pointer is aligned as its type asks and is not NULL, even where the length is 0, and the elements take at most PTRDIFF_MAX bytes;
+ *     pointer is aligned as its type asks and is not NULL, and the elements take at most PTRDIFF_MAX bytes;
  *   - elements that a function may write overlap no others lent to the same call. Those that are only read may overlap each other.
- * No function allocates, keeps a pointer after it returns, has a state of its own, or fails to return. */
+ * The pointer is not NULL even where the length is 0: the compiled code may count on it. For an empty list pass any other pointer, such as an array of one
+ * element, which is then neither read nor written; since malloc(0) may answer NULL, ask malloc for one element at least.
+ * No function allocates, keeps a pointer after it returns, has a state of its own, or fails to return.
+ *
+ * What changes from one version to the next is in docs/CHANGES.md. */
 #ifndef IMDAGLUZ_H
 #define IMDAGLUZ_H
 
 #include <stddef.h>
 #include <stdint.h>
+
+/* The version of this header and of the archive that belongs to it. */
+#define IMDAGLUZ_VERSION "0.1.0"
+#define IMDAGLUZ_VERSION_MAJOR 0
+#define IMDAGLUZ_VERSION_MINOR 1
+#define IMDAGLUZ_VERSION_PATCH 0
 
 #ifdef __cplusplus
 extern "C" {
@@ -94,7 +104,18 @@ enum {
  *                The words from 2g to 2G-1 are 0
  *   scratch      3V+3+3G times 0.
  * Whatever bits inputs and latch states have, a literal with an image and its image have the same bit.
- * What is walked: with IMDAGLUZ_TRIM off the gates in their order, then next states, then roots; with it on next states, then roots.
+ * What is walked, one literal after the other: with IMDAGLUZ_TRIM off the outputs of the gates in their order, then next states, then roots; with it on
+ * next states, then roots.
+ *
+ * How a literal is walked, so that 7 and 8 can be told beforehand. There is a path of literals, empty at first, p[0] to p[n-1]. To walk the literal c:
+ *   - where its variable has an image already (the constant, an input, a latch state, a gate that was walked before), c is done;
+ *   - else, where n is not 0 and p[n/2], n/2 rounded down, equals c with its sign, a cycle is seen: refusal 8, and c is the literal at fault;
+ *   - else, where no gate defines its variable, under either sign, refusal 7, and c is the literal at fault;
+ *   - else c goes to the end of the path, the first input of its gate is walked and then the second, whatever the first came to; c leaves the path, and its
+ *     variable has an image.
+ * So a cycle is seen some rounds after the walk entered it, and its literal need not be the first that came again. Gate 2(2,0), walked as 3: the path is
+ * empty, then 3, then 3 2, and then 2 equals p[1]: refusal 8 with the literal 2. With gate 2(2,4) it is 8 as well, though 4 is not defined; with
+ * gate 2(4,2) it is 7 with the literal 4, since the first input comes first.
  *
  * Or answers a refusal, the first of these that applies:
  *   3  answer_length is below 3; this one writes nothing, not even to answer
@@ -106,7 +127,7 @@ enum {
  *   5  the variable of an input or a gate's output is that of the constant, or of one before it. The literal at fault is the first one: inputs, gates
  *   6  the variable of a latch's state is that of the constant, an input, a gate's output or a state before it. The literal at fault is the first one
  *   7  a literal that the walk reaches is defined nowhere. The literal at fault is that literal, as it was used
- *   8  a gate that the walk reaches needs itself. The literal at fault is one of such a gate
+ *   8  a gate that the walk reaches needs itself. The literal at fault is that at which the walk saw it, a literal of such a gate, as it was used
  * Of 7 and 8 it is the one that the walk meets first. IMDAGLUZ_TOO_DEEP is proved never to be given.
  * Every refusal but the first one leaves the literal at fault (0 for 1 to 3), 0 and 0 in answer. Refusals 1 to 4 leave the five other lists as they
  * were. Refusals 5 to 8 set the V+1 words of map to IMDAGLUZ_NO_IMAGE, and L words of next_images, R of root_images, 2G of gates_out and 3V+3+3G of

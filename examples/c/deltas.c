@@ -3,8 +3,10 @@
  *   deltas            the half adder of the AIGER paper
  *   deltas CODE FILE  the gates that FILE's bytes write, the first of them with the output code CODE
  *
- * Exit status: 0 when the bytes are whole gates, 1 when a delta is refused, 2 when it is called otherwise or FILE can't be read. */
+ * Exit status: 0 when the bytes are whole gates and every line was written, 1 when a delta is refused or a line could not be written, 2 when it is
+ * called otherwise or FILE can't be read. */
 #include "imdagluz.h"
+#include <errno.h>
 #include <inttypes.h>
 #include <stdio.h>
 #include <stdlib.h>
@@ -13,6 +15,13 @@ static uint64_t value_of(const uint8_t out[9]) {
     uint64_t value = 0;
     for (int i = 8; i-- > 0;) value = value << 8 | out[i];
     return value;
+}
+
+/* The status, or 1 where standard output did not take every line. */
+static int printed(int status) {
+    if (fflush(stdout) == 0 && !ferror(stdout)) return status;
+    fputs("deltas: standard output can't be written\n", stderr);
+    return 1;
 }
 
 static int print_gates(uint64_t code, const uint8_t *bytes, size_t length) {
@@ -37,10 +46,17 @@ static int print_gates(uint64_t code, const uint8_t *bytes, size_t length) {
 int main(int argc, char **argv) {
     static const uint8_t half_adder[] = {0x02, 0x02, 0x03, 0x02, 0x01, 0x02};
     static uint8_t bytes[1 << 20];
-    if (argc == 1) return print_gates(6, half_adder, sizeof half_adder);
-    FILE *file = argc == 3 ? fopen(argv[2], "rb") : NULL;
+    if (argc == 1) return printed(print_gates(6, half_adder, sizeof half_adder));
+    char *end = NULL;
+    errno = 0;
+    uint64_t code = argc == 3 ? strtoull(argv[1], &end, 10) : 0;
+    if (argc != 3 || argv[1][0] < '0' || argv[1][0] > '9' || *end != '\0' || errno != 0) {
+        fprintf(stderr, "usage: deltas [CODE FILE], where CODE is a decimal number of at most 64 bits\n");
+        return 2;
+    }
+    FILE *file = fopen(argv[2], "rb");
     if (file == NULL) {
-        fprintf(stderr, "usage: deltas [CODE FILE]\n");
+        fprintf(stderr, "deltas: %s can't be opened\n", argv[2]);
         return 2;
     }
     size_t length = fread(bytes, 1, sizeof bytes, file);
@@ -49,5 +65,5 @@ int main(int argc, char **argv) {
         return 2;
     }
     fclose(file);
-    return print_gates(strtoull(argv[1], NULL, 10), bytes, length);
+    return printed(print_gates(code, bytes, length));
 }

@@ -1,7 +1,8 @@
 /* Renumbers a circuit of a million gates with imdagluz_renumber, once for each of some flags. The gates stand backwards: the one that needs most comes
  * first and has the smallest code. Then it has a circuit refused for a cycle. Prints a line a call; a success's says whether the new gates are in order.
  *
- * Exit status: 0 when all is as promised, 1 when a gate is out of order or an answer is not as it should be, 2 when there is no memory. */
+ * Exit status: 0 when all is as promised and every line was written, 1 when a gate is out of order, an answer is not as it should be or a line could
+ * not be written, 2 when there is no memory. */
 #include "imdagluz.h"
 #include <inttypes.h>
 #include <stdio.h>
@@ -82,5 +83,9 @@ int main(void) {
     int good = 1;
     for (size_t i = 0; i < sizeof flags / sizeof *flags; i++) good &= renumber_million(flags[i]);
     good &= renumber_cycle();
+    if (fflush(stdout) != 0 || ferror(stdout)) {
+        fputs("renumber: standard output can't be written\n", stderr);
+        return 1;
+    }
     return good ? 0 : 1;
 }

@@ -1,7 +1,11 @@
 //! The circuits of examples/c/renumber.c from Rust, by the safe function of imdagluz.rs: a million gates that stand backwards, with each of some
-//! flags, and a cycle. Prints the same lines. `tools/c/run` says how it is compiled.
+//! flags, and a cycle. Prints the same lines. `tools/c/run` says how it is compiled. The exit status is 1 where a circuit is not answered as it
+//! should be, or standard output does not take a line.
 
 mod imdagluz;
+
+use std::io::{self, Write};
+use std::process::ExitCode;
 
 use imdagluz::{renumber, Circuit, Flags, Lists, Ordered, Refusal};
 
@@ -47,15 +51,26 @@ fn renumbered(circuit: &Circuit) -> Result<(Ordered, Vec<u32>, u32), Refusal> {
     Ok((ordered, gates_out, root_images[0]))
 }
 
-fn print_million(circuit: &Circuit) -> Result<(), Refusal> {
-    let (ordered, gates, root) = renumbered(circuit)?;
-    let Ordered { gates_made, largest_variable } = ordered;
-    print!("flags {}: answer 0, gates made {gates_made}, largest variable {largest_variable}, first root {root}; ", circuit.flags.number());
-    println!("each gate above its inputs, larger input first: {}", if in_order(&gates) { "yes" } else { "no" });
-    Ok(())
+/// Why there is no line: the circuit was refused, or standard output did not take it.
+fn refused(why: Refusal) -> String {
+    format!("refused: {why:?}")
 }
 
-fn main() -> Result<(), Refusal> {
+fn unwritten(why: io::Error) -> String {
+    format!("standard output can't be written: {why}")
+}
+
+fn print_million(out: &mut impl Write, circuit: &Circuit) -> Result<(), String> {
+    let (ordered, gates, root) = renumbered(circuit).map_err(refused)?;
+    let Ordered { gates_made, largest_variable } = ordered;
+    let (flags, good) = (circuit.flags.number(), in_order(&gates));
+    let said = if good { "yes" } else { "no" };
+    write!(out, "flags {flags}: answer 0, gates made {gates_made}, largest variable {largest_variable}, first root {root}; ").map_err(unwritten)?;
+    writeln!(out, "each gate above its inputs, larger input first: {said}").map_err(unwritten)?;
+    if good { Ok(()) } else { Err("a gate is out of order".to_string()) }
+}
+
+fn print_all(out: &mut impl Write) -> Result<(), String> {
     let inputs: Vec<u32> = (1..=INPUTS).map(|v| 2 * v).collect();
     let states: Vec<u32> = (INPUTS + 1..=SOURCES).map(|v| 2 * v).collect();
     let nexts: Vec<u32> = (0..LATCHES).map(|i| gate_code(GATES / LATCHES * i)).collect();
@@ -63,14 +78,18 @@ fn main() -> Result<(), Refusal> {
     let roots = [2 * (SOURCES + 501), 2 * TOP + 1, 7];
     for (trim, hash, fold) in [(false, false, false), (true, false, false), (false, true, false), (false, false, true), (true, true, true)] {
         let flags = Flags { trim, hash, fold };
-        print_million(&Circuit { top: TOP, counts: [1, 1, 0, 0, 1], flags, inputs: &inputs, states: &states, nexts: &nexts, gates: &gates, roots: &roots })?;
+        print_million(out, &Circuit { top: TOP, counts: [1, 1, 0, 0, 1], flags, inputs: &inputs, states: &states, nexts: &nexts, gates: &gates, roots: &roots })?;
     }
     // gates 4(2,7) and 6(4,2): the variable 3 needs 2, which needs 3
     let flags = Flags { trim: true, ..Flags::default() };
     let cycle = Circuit { top: 3, counts: [1, 0, 0, 0, 0], flags, inputs: &[2], states: &[], nexts: &[], gates: &[4, 2, 7, 6, 4, 2], roots: &[6] };
-    match renumbered(&cycle) {
-        Err(Refusal::Cycle(literal)) => println!("a cycle: answer 8, literal {literal}"),
-        other => println!("a cycle: {other:?}"),
-    }
-    Ok(())
+    let Err(Refusal::Cycle(literal)) = renumbered(&cycle) else { return Err("a cycle is not refused".to_string()) };
+    writeln!(out, "a cycle: answer 8, literal {literal}").map_err(unwritten)?;
+    out.flush().map_err(unwritten)
+}
+
+fn main() -> ExitCode {
+    let Err(why) = print_all(&mut io::stdout().lock()) else { return ExitCode::SUCCESS };
+    eprintln!("renumber: {why}");
+    ExitCode::FAILURE
 }

@@ -1,5 +1,5 @@
 /* Has imdagluz_renumber refuse a small circuit for each reason that the header gives, in lists that are longer than is asked, and compares every word
- * afterwards with what the header says. Exit status: 0 when all are as promised, else 1. */
+ * afterwards with what the header says. Exit status: 0 when all are as promised and the line that says so was written, else 1. */
 #include "imdagluz.h"
 #include <inttypes.h>
 #include <stdio.h>
@@ -67,5 +67,9 @@ int main(void) {
     CASE("an undefined root", (c.gates_length = 3, c.roots[0] = 9), 7, 9);
     CASE("a gate that needs itself", c.gates[5] = 8, 8, 8);
     if (good) printf("%d refusals as promised\n", cases);
+    if (fflush(stdout) != 0 || ferror(stdout)) {
+        fputs("refusals: standard output can't be written\n", stderr);
+        return 1;
+    }
     return good ? 0 : 1;
 }

@@ -173,7 +173,8 @@ module _ {s : Shape} {sources gates : List ℕ} {o : Out} {n : Walk} {l : Lit} {
       settling : step N here ≡ goes (returning (t .frames) (settle N (t .work) G))
       settling = step-second N (t .frames) (l .0) (t .work) G its-gate
 
-      onward : (r : Left) → Settles s gates (n .depth) (t .frames) (settle N (t .work) G) r → Onward s sources gates o (r .state) (r .map) (r .out) (r .scratch) more
+      onward : (r : Left) → Settles s gates (n .depth) (t .frames) (settle N (t .work) G) r
+          → Onward s sources gates o (r .state) (r .map) (r .out) (r .scratch) more
       onward r z =
           let n′ : Walk = numbers (n .depth) (z .made′) in
           rw (z .returns)

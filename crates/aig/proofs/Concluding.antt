@@ -103,7 +103,8 @@ module _ (l : Lent) (p : Tested l) where
         let few : length (w .made) ≤ length (K .gates) = made-few l p w e in
         let rest : ℕ = 2 * (length (K .gates) - length (w .made)) in
         let made-is : length (w .made) % 2 ^ 32 ≡ length (w .made) = omega (arith, few, sizes .gates) in
-        let top-is : (length (l .inputs) + length (l .states) + length (w .made)) % 2 ^ 32 ≡ length (l .inputs) + length (imagesIn (w .images) (l .nexts)) + length (w .made)
+        let top-is : (length (l .inputs) + length (l .states) + length (w .made)) % 2 ^ 32 ≡ length (l .inputs) + length
+        (imagesIn (w .images) (l .nexts)) + length (w .made)
         = omega (arith, images-length (w .images) (l .nexts), agr .latches, few, sizes) in
         let answer-is : madeWith (length (l .inputs) + length (l .states)) (length (w .made)) ≡ Renumbered (summaryOf (orderedOf K w))
         = ap₂ {C = Answer} (λ (x y : ℕ). Renumbered (record { made = x; top = variable y })) made-is top-is in
@@ -114,7 +115,16 @@ module _ (l : Lent) (p : Tested l) where
         (images-are w (l .nexts) (l .nextImages) ei (λ c. next-low (O.bounds l p) agr c) (omega (arith, agr .latches, room .nexts)))
         (images-are w (l .roots) (l .rootImages) ei (λ c. root-low (O.bounds l p) agr c) (room .roots))
         (joins (2 * length (K .gates)) g (l .gatesOut) _ eo (k .pastOut) long) scratch-is
-        ∙ ap (λ (a : Answer). record { answer = a; map = onto (w .images) (l .map); nextImages = onto (imagesIn (w .images) (l .nexts)) (l .nextImages); rootImages = onto (imagesIn (w .images) (l .roots)) (l .rootImages); gatesOut = onto (pairWords (w .made) ++ zeros rest) (l .gatesOut); scratch = onto (zeros (scratchWords K)) (l .scratch) }) answer-is)
+        ∙ ap (λ (a : Answer). record {
+          answer = a;
+          map = onto (w .images) (l .map);
+          nextImages = onto (imagesIn (w .images) (l .nexts))
+              (l .nextImages);
+          rootImages = onto (imagesIn (w .images) (l .roots)) (l .rootImages);
+          gatesOut = onto (pairWords (w .made) ++ zeros rest)
+              (l .gatesOut);
+          scratch = onto (zeros (scratchWords K)) (l .scratch);
+        }) answer-is)
 
     refuses : (why : Refusal) → renumber K ≡ stopped why → WalkEnds K (stopped why) r (take (mapWords K) m) (take (2 * length (K .gates)) g)
         → ended r left ≡ after l (stopped why)

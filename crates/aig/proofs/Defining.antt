@@ -86,7 +86,8 @@ module _ (gs : List Gate) (words : ℕ) where
       }
 
   -- gate n
-  gate-known : {n : ℕ} {seen t : List ℕ} → Known gs words n seen t → n < length gs → (g : Gate) → getD gs n noGate ≡ g → outVar g < words → getD t (outVar g) 0 ≡ 0
+  gate-known : {n : ℕ} {seen t : List ℕ} → Known gs words n seen t → n < length gs → (g : Gate) → getD gs n noGate ≡ g → outVar g < words
+      → getD t (outVar g) 0 ≡ 0
       → Known gs words (n + 1) (outVar g ∷ seen) (set t (outVar g) (n + 2))
   gate-known {n} {seen} {t} k few g is h e =
       record {
@@ -126,13 +127,17 @@ module _ (gs : List Gate) (words : ℕ) where
       (go (eqb (getD t (var d) 0) 0) (sameTest (getD t (var d) 0) 0)
       (λ e. sources-say ds (source-known gs words k d (codes d (inl refl)) e) (λ c h. codes c (inr h))))
     where
-      go : (b : Bool) → Same (getD t (var d) 0) 0 b → (getD t (var d) 0 ≡ 0 → Say (λ w. Known gs words n (seenAfter seen (d ∷ ds)) w) (defineSources (set t (var d) 1) ds) (firstAgain (var d ∷ seen) ds))
-          → Say (λ w. Known gs words n (seenAfter seen (d ∷ ds)) w) (andThen (cond b (tabled (set t (var d) 1) F.Nothing) (tabled t (F.Literal (literal d)))) (λ w. defineSources w ds))
+      go : (b : Bool) → Same (getD t (var d) 0) 0 b
+          → (getD t (var d) 0 ≡ 0 → Say (λ w. Known gs words n (seenAfter seen (d ∷ ds)) w) (defineSources (set t (var d) 1) ds)
+          (firstAgain (var d ∷ seen) ds))
+          → Say (λ w. Known gs words n (seenAfter seen (d ∷ ds)) w)
+          (andThen (cond b (tabled (set t (var d) 1) F.Nothing) (tabled t (F.Literal (literal d)))) (λ w. defineSources w ds))
           (cond (not b) (some d) (firstAgain (var d ∷ seen) ds))
       go true (same e) rec = rec e
       go false (other z) rec = refl
 
-  gates-say : length gs ≤ 1048575 → (hs : List Gate) (n : ℕ) {seen t : List ℕ} → n + length hs ≡ length gs → ((j : ℕ) → j < length hs → getD gs (n + j) noGate ≡ getD hs j noGate)
+  gates-say : length gs ≤ 1048575 → (hs : List Gate) (n : ℕ) {seen t : List ℕ} → n + length hs ≡ length gs
+      → ((j : ℕ) → j < length hs → getD gs (n + j) noGate ≡ getD hs j noGate)
       → Known gs words n seen t → Codes words (map (λ g. g .output) hs)
       → Say (λ w. Known gs words (length gs) (seenAfter seen (map (λ g. g .output) hs)) w) (defineGates t hs n) (firstAgain seen (map (λ g. g .output) hs))
   unfolding defineGates defineAt
@@ -142,7 +147,8 @@ module _ (gs : List Gate) (words : ℕ) where
       (go (eqb (getD t (outVar g) 0) 0) (sameTest (getD t (outVar g) 0) 0)
       (λ z. gates-say few hs (n + 1) (omega arith)
       (λ j h. ap (λ (i : ℕ). getD gs i noGate) (assoc j) ∙ f (suc j) (omega arith))
-      (gate-known gs words k (omega arith) g (ap (λ (i : ℕ). getD gs i noGate) (sym plus) ∙ f 0 (omega arith)) (codes (g .output) (inl refl)) z) (λ c h. codes c (inr h))))
+      (gate-known gs words k (omega arith) g (ap (λ (i : ℕ). getD gs i noGate) (sym plus) ∙ f 0 (omega arith)) (codes (g .output) (inl refl)) z)
+      (λ c h. codes c (inr h))))
     where
       plus : n + 0 ≡ n
       plus = omega arith
@@ -151,8 +157,11 @@ module _ (gs : List Gate) (words : ℕ) where
       assoc j = omega arith
 
       go : (b : Bool) → Same (getD t (outVar g) 0) 0 b
-          → (getD t (outVar g) 0 ≡ 0 → Say (λ w. Known gs words (length gs) (seenAfter seen (g .output ∷ map (λ x. x .output) hs)) w) (defineGates (set t (outVar g) (n + 2)) hs (n + 1)) (firstAgain (outVar g ∷ seen) (map (λ x. x .output) hs)))
-          → Say (λ w. Known gs words (length gs) (seenAfter seen (g .output ∷ map (λ x. x .output) hs)) w) (andThen (cond b (tabled (set t (outVar g) (n + 2)) F.Nothing) (tabled t (F.Literal (literal (g .output))))) (λ w. defineGates w hs (n + 1)))
+          → (getD t (outVar g) 0 ≡ 0 → Say (λ w. Known gs words (length gs) (seenAfter seen (g .output ∷ map (λ x. x .output) hs)) w)
+          (defineGates (set t (outVar g) (n + 2)) hs (n + 1)) (firstAgain (outVar g ∷ seen) (map (λ x. x .output) hs)))
+          → Say (λ w. Known gs words (length gs) (seenAfter seen (g .output ∷ map (λ x. x .output) hs)) w)
+          (andThen (cond b (tabled (set t (outVar g) (n + 2)) F.Nothing) (tabled t (F.Literal (literal (g .output)))))
+          (λ w. defineGates w hs (n + 1)))
           (cond (not b) (some (g .output)) (firstAgain (outVar g ∷ seen) (map (λ x. x .output) hs)))
       go true (same z) rec = rec z
       go false (other z) rec = refl
@@ -180,7 +189,8 @@ again-append seen [] ys = refl
 again-append seen (x ∷ xs) ys = go (elem (var x) seen) (again-append (var x ∷ seen) xs ys)
   where
     go : (b : Bool) → firstAgain (var x ∷ seen) (xs ++ ys) ≡ orElse (firstAgain (var x ∷ seen) xs) (firstAgain (seenAfter (var x ∷ seen) xs) ys)
-        → cond b (some x) (firstAgain (var x ∷ seen) (xs ++ ys)) ≡ orElse (cond b (some x) (firstAgain (var x ∷ seen) xs)) (firstAgain (seenAfter (var x ∷ seen) xs) ys)
+        → cond b (some x) (firstAgain (var x ∷ seen) (xs ++ ys)) ≡ orElse (cond b (some x) (firstAgain (var x ∷ seen) xs))
+        (firstAgain (seenAfter (var x ∷ seen) xs) ys)
     go true e = refl
     go false e = e
 
@@ -261,7 +271,8 @@ known-tabled G words seen t once k v h = go (ltb (getD t v 0) 2) (leTest (suc (g
         let r = k .right v (omega arith) in
         (r .0, gateFor-of G once (getD (G .gates) (getD t v 0 - 2) noGate) v (In-getD (G .gates) (getD t v 0 - 2) noGate (r .0)) (r .1))
 
-module _ (inputs states : List ℕ) (gs : List Gate) (words : ℕ) (some′ : 0 < words) (few : length gs ≤ 1048575) (codesI : Codes words inputs) (codesS : Codes words states)
+module _ (inputs states : List ℕ) (gs : List Gate) (words : ℕ) (some′ : 0 < words) (few : length gs ≤ 1048575) (codesI : Codes words inputs)
+    (codesS : Codes words states)
     (codesG : Codes words (map (λ g. g .output) gs)) where
   abbrev outs : List ℕ
   outs = map (λ g. g .output) gs
@@ -290,14 +301,16 @@ module _ (inputs states : List ℕ) (gs : List Gate) (words : ℕ) (some′ : 0 
 
   by-states : (t : List ℕ) → Known gs words (length gs) seenGates t → JudgeOf Ends (judge StateAgain (defineSources t states) (λ t₃. judged t₃ Passed)) lastly
   by-states t k =
-      judge-say StateAgain (Known gs words (length gs) (seenAfter seenGates states)) Ends (defineSources t states) (firstAgain seenGates states) (λ t₃. judged t₃ Passed) Passed
+      judge-say StateAgain (Known gs words (length gs) (seenAfter seenGates states)) Ends (defineSources t states) (firstAgain seenGates states)
+      (λ t₃. judged t₃ Passed) Passed
       (sources-say gs words states k codesS) (λ w k₃. (refl, λ e. (seenAfter seenGates states, k₃)))
 
   by-gates : (t : List ℕ) → Known gs words 0 seenInputs t
       → JudgeOf Ends (judge Again (defineGates t gs 0) (λ t₂. judge StateAgain (defineSources t₂ states) (λ t₃. judged t₃ Passed))) nextly
   by-gates t k =
       judge-say Again (Known gs words (length gs) seenGates) Ends (defineGates t gs 0) (firstAgain seenInputs outs)
-      (λ t₂. judge StateAgain (defineSources t₂ states) (λ t₃. judged t₃ Passed)) lastly (gates-say gs words few gs 0 all (λ j h. ap (λ (i : ℕ). getD gs i noGate) (from j)) k codesG)
+      (λ t₂. judge StateAgain (defineSources t₂ states) (λ t₃. judged t₃ Passed)) lastly
+      (gates-say gs words few gs 0 all (λ j h. ap (λ (i : ℕ). getD gs i noGate) (from j)) k codesG)
       by-states
     where
       all : 0 + length gs ≡ length gs
@@ -316,7 +329,8 @@ module _ (inputs states : List ℕ) (gs : List Gate) (words : ℕ) (some′ : 0 
   same-six : firstAgain seenGates states ≡ six
   same-six =
       again-same _ _ states
-      (λ v. ap (elem v) (sym (seen-append (0 ∷ []) inputs outs)) ∙ seen-elem (0 ∷ []) (inputs ++ outs) v ∙ or-swap (eqb v 0) (elem v (map var (inputs ++ outs))))
+      (λ v. ap (elem v) (sym (seen-append (0 ∷ []) inputs outs)) ∙ seen-elem (0 ∷ []) (inputs ++ outs) v
+      ∙ or-swap (eqb v 0) (elem v (map var (inputs ++ outs))))
 
   judged-as : JudgeOf Ends (defineAll (zeros words) inputs states gs) (failAt five Again (failAt six StateAgain Passed))
   judged-as = (

@@ -49,7 +49,8 @@ module _ {s : Shape} {sources gates : List ℕ} {o : Out} {made : ℕ} {c : ℕ}
   unfolding walkAll
   goes-on v e = ap (λ (x : Out). andThen x (λ w′. walkAll (netOf s sources gates) rest w′)) e ∙ w .comes
 
-  ends-in : (r : Walked) (images′ out′ scratch′ : List ℕ) → Ended s sources gates first r images′ out′ scratch′ → Waits s sources gates o rest r images′ out′ scratch′
+  ends-in : (r : Walked) (images′ out′ scratch′ : List ℕ) → Ended s sources gates first r images′ out′ scratch′
+      → Waits s sources gates o rest r images′ out′ scratch′
   ends-in (Reached made′) images′ out′ scratch′ d =
       record { ground = w .ground; work = d .work; holds = d .holds; inv = d .inv; comes = goes-on (reached (d .work)) (d .comes) }
   ends-in (Stopped why) images′ out′ scratch′ d = record { long = d .long; comes = goes-on (stopped why) (d .comes) }
@@ -82,13 +83,15 @@ every-third (o ∷ []) h = absurd (omega arith)
 every-third (o ∷ a ∷ []) h = absurd (omega arith)
 every-third (o ∷ a ∷ b ∷ rest) h = ap (λ (r : List ℕ). o ∷ r) (every-third rest (omega arith))
 
-waits-long : (s : Shape) (sources gates : List ℕ) (o : Out) (cs : List ℕ) (r : Walked) (images out scratch : List ℕ) → Waits s sources gates o cs r images out scratch
+waits-long : (s : Shape) (sources gates : List ℕ) (o : Out) (cs : List ℕ) (r : Walked) (images out scratch : List ℕ)
+    → Waits s sources gates o cs r images out scratch
     → Long s images out scratch
 waits-long s sources gates o cs (Reached made) images out scratch w = lists-long (w .ground) (w .holds) (w .inv)
 waits-long s sources gates o cs (Stopped why) images out scratch w = w .long
 
 -- a list that is walked up to place i
-pub record Listing (s : Shape) (gates lits : List ℕ) (step : ℕ) (from : Walked) (images₀ out₀ scratch₀ : List ℕ) (i : ℕ) (end : Walked) (images out scratch : List ℕ)
+pub record Listing (s : Shape) (gates lits : List ℕ) (step : ℕ) (from : Walked) (images₀ out₀ scratch₀ : List ℕ) (i : ℕ) (end : Walked)
+    (images out scratch : List ℕ)
     : Type 0 where
   pub some : 0 < step
   pub inside : AllInside s (everyFrom step i lits)
@@ -203,16 +206,19 @@ module _ (s : Shape) (gates a b : List ℕ) (from : Walked) (images out scratch 
 pub no-outputs : {trim : Bool} {words : ℕ} (gates : List ℕ) → trim ≡ true → words ≡ 0 → everyFrom 3 0 (take words gates) ≡ cond trim [] (outputsOf gates)
 no-outputs gates t e = rw (t, e) refl
 
-pub all-outputs : {s : Shape} {gates : List ℕ} {made : ℕ} {cs images out scratch : List ℕ} → CanWalk s gates made cs images out scratch → {trim : Bool} {words : ℕ}
+pub all-outputs : {s : Shape} {gates : List ℕ} {made : ℕ} {cs images out scratch : List ℕ} → CanWalk s gates made cs images out scratch
+    → {trim : Bool} {words : ℕ}
     → trim ≡ false → words ≡ length gates → everyFrom 3 0 (take words gates) ≡ cond trim [] (outputsOf gates)
 all-outputs {gates = gates} k t e = rw (t, e, take-length gates) (every-third gates (omega (arith, k .waiting .ground .long)))
 
-module _ {s : Shape} {gates images out scratch : List ℕ} (trim : Bool) (nexts roots : List ℕ) (k : CanWalk s gates 0 (turns trim gates nexts roots) images out scratch)
+module _ {s : Shape} {gates images out scratch : List ℕ} (trim : Bool) (nexts roots : List ℕ)
+    (k : CanWalk s gates 0 (turns trim gates nexts roots) images out scratch)
     (words : ℕ) (e : everyFrom 3 0 (take words gates) ≡ cond trim [] (outputsOf gates)) where
   pub outputs-can : CanGoOn s gates (everyFrom 3 0 (take words gates)) (Reached 0) images out scratch
   outputs-can = rw e (first-can s gates (cond trim [] (outputsOf gates)) (nexts ++ roots) (Reached 0) images out scratch k)
 
-  module _ (r₁ : Walked) (images₁ out₁ scratch₁ : List ℕ) (t₁ : GoesOn s gates (everyFrom 3 0 (take words gates)) (Reached 0) images out scratch r₁ images₁ out₁ scratch₁) where
+  module _ (r₁ : Walked) (images₁ out₁ scratch₁ : List ℕ)
+      (t₁ : GoesOn s gates (everyFrom 3 0 (take words gates)) (Reached 0) images out scratch r₁ images₁ out₁ scratch₁) where
     outputs-walked : GoesOn s gates (cond trim [] (outputsOf gates)) (Reached 0) images out scratch r₁ images₁ out₁ scratch₁
     outputs-walked = subst (λ (cs : List ℕ). GoesOn s gates cs (Reached 0) images out scratch r₁ images₁ out₁ scratch₁) e t₁
 

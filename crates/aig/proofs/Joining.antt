@@ -149,7 +149,12 @@ module _ {l : Lent} {map out scratch : List ℕ} (k : WalkReady l map out scratc
   pub can-walk : CanWalk shape (l .gates) 0 (turns (C .trim) (l .gates) (l .nexts) (l .roots)) map out scratch
   can-walk =
       record {
-        inside = λ i h. omega (arith, turn-low (getD (turns (C .trim) (l .gates) (l .nexts) (l .roots)) i 0) (In-getD (turns (C .trim) (l .gates) (l .nexts) (l .roots)) i 0 h));
+        inside =
+            λ i h. omega (
+              arith,
+              turn-low (getD (turns (C .trim) (l .gates) (l .nexts) (l .roots)) i 0)
+                  (In-getD (turns (C .trim) (l .gates) (l .nexts) (l .roots)) i 0 h),
+            );
         sources = sources;
         o = last;
         rest = [];
@@ -157,12 +162,17 @@ module _ {l : Lent} {map out scratch : List ℕ} (k : WalkReady l map out scratc
       }
 
   -- and end as the definitions say
-  pub walks-end : (r : Walked) (m g s : List ℕ) → Walks shape (l .gates) 0 (turns (C .trim) (l .gates) (l .nexts) (l .roots)) map out scratch r m g s → WalkEnds C last r m g
+  pub walks-end : (r : Walked) (m g s : List ℕ) → Walks shape (l .gates) 0 (turns (C .trim) (l .gates) (l .nexts) (l .roots)) map out scratch r m g s
+      → WalkEnds C last r m g
   unfolding walkAll
   walks-end r m g s f = go r (f sources last [] waiting)
     where
       go : (r : Walked) → Waits shape sources (l .gates) last [] r m g s → WalkEnds C last r m g
       go (Reached made) w =
-          subst (λ (o : Out). WalkEnds C o (Reached made) m g) (w .comes)
-          (ap Reached (w .holds .count), w .holds .images, w .holds .gatesMade .words ∙ ap (λ (n : ℕ). pairWords (w .work .made) ++ zeros (2 * (n - length (w .work .made)))) (sym (gates-length (l .gates))))
+          subst (λ (o : Out). WalkEnds C o (Reached made) m g) (w .comes) (
+            ap Reached (w .holds .count),
+            w .holds .images,
+            w .holds .gatesMade .words
+                ∙ ap (λ (n : ℕ). pairWords (w .work .made) ++ zeros (2 * (n - length (w .work .made)))) (sym (gates-length (l .gates))),
+          )
       go (Stopped why) w = subst (λ (o : Out). WalkEnds C o (Stopped why) m g) (w .comes) refl

@@ -52,7 +52,8 @@ module _ {s : Shape} {gates : List ℕ} {state₀ : State} {map₀ out₀ scratc
 
       pub loops-less : toGo s gates state′ map′ scratch′ < toGo s gates state map scratch
       loops-less =
-          subst (λ (x : State). toGo s gates state′ map′ scratch′ < toGo s gates x map scratch) (sym e) (t (loops-as .sources) (loops-as .o) (loops-as .going) .less)
+          subst (λ (x : State). toGo s gates state′ map′ scratch′ < toGo s gates x map scratch) (sym e)
+          (t (loops-as .sources) (loops-as .o) (loops-as .going) .less)
 
   module _ {state : State} {map out scratch : List ℕ} (i : Loops s gates state₀ map₀ out₀ scratch₀ state map out scratch) where
     pub loops-reached : {n : Walk} → state ≡ Reached n → Runs s gates state₀ map₀ out₀ scratch₀ (Walked.Reached (n .made)) map out scratch

@@ -22,4 +22,5 @@ part-before from size ws i v h = ap (take size) (drop-set-lt from ws i v h)
 pub part-after : (from size : ℕ) (ws : List ℕ) (i v : ℕ) → from + size ≤ i → part from size (set ws i v) ≡ part from size ws
 part-after from size ws i v h =
     let e : i ≡ from + (i - from) = omega arith in
-    ap (λ (j : ℕ). part from size (set ws j v)) e ∙ ap (take size) (drop-set-add from ws (i - from) v) ∙ take-set-le size (drop from ws) (i - from) v (omega arith)
+    ap (λ (j : ℕ). part from size (set ws j v)) e ∙ ap (take size) (drop-set-add from ws (i - from) v)
+    ∙ take-set-le size (drop from ws) (i - from) v (omega arith)

@@ -43,7 +43,8 @@ module _ (l : Lent) where
       orRefuse (firstAgain (0 ∷ []) (definitions C)) R.Again
       (orRefuse (firstAgain (0 ∷ map var (definitions C)) (C .states)) R.StateAgain (walkAll (net C) (walked C) (start (C .top) (graph C .sources))))
 
-  pub failed : (why : Refusal) → passing l ≡ Failed why → outcomeOf (Refused why) (l .map) (l .nextImages) (l .rootImages) (l .gatesOut) (l .scratch) ≡ outcome l
+  pub failed : (why : Refusal) → passing l ≡ Failed why
+      → outcomeOf (Refused why) (l .map) (l .nextImages) (l .rootImages) (l .gatesOut) (l .scratch) ≡ outcome l
   unfolding passing outcome conclusion renumber after
   failed why e = go (tooBig C) (misshapen l) (tooShort l C) (firstOver (2 * C .top + 1) (codes C)) e
     where

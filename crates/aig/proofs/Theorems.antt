@@ -19,11 +19,19 @@ one-lookup κs a x y e f p q = p ∙ sym q
 
 pub one-renumber :
     DeterminesCells 10 renumber-kinds.ps renumber-kinds.r renumber-promise.Learnt {A = List ℕ × List ℕ × List ℕ × List ℕ × List ℕ}
-    (λ κs e. (now (e .1 .1 .1 .1 .1 .1 .0), now (e .1 .1 .1 .1 .1 .1 .1 .0), now (e .1 .1 .1 .1 .1 .1 .1 .1 .0), now (e .1 .1 .1 .1 .1 .1 .1 .1 .1 .0), now (e .1 .1 .1 .1 .1 .1 .1 .1 .1 .1 .0)))
+    (λ κs e. (
+      now (e .1 .1 .1 .1 .1 .1 .0),
+      now (e .1 .1 .1 .1 .1 .1 .1 .0),
+      now (e .1 .1 .1 .1 .1 .1 .1 .1 .0),
+      now
+          (e .1 .1 .1 .1 .1 .1 .1 .1 .1 .0),
+      now (e .1 .1 .1 .1 .1 .1 .1 .1 .1 .1 .0),
+    ))
 one-renumber κs a x y e f p q =
     (ap (λ (o : Outcome). o .answer) (p ∙ sym q), ap (λ (o : Outcome). (o .map, o .nextImages, o .rootImages, o .gatesOut, o .scratch)) (p ∙ sym q))
 
--- whatever `renumber` leaves of what it is lent is all that the customer demands: circuit's specs/Demands.antt says what that is. Where it says that a literal has
+-- whatever `renumber` leaves of what it is lent is all that the customer demands: circuit's specs/Demands.antt says what that is. Where it says that
+-- a literal has
 -- an image, `HasImage`, that is what `lookup` in the map left answers, by its contract
 pub renumber-demands : (l : Lent) (o : Outcome) → o ≡ outcome l → Demands l (circuitOf l) o
 renumber-demands l o left = subst⁻¹ (Demands l (circuitOf l)) left (demands l)

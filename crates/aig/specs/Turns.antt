@@ -47,7 +47,8 @@ pub record Onward (s : Shape) (sources gates : List ℕ) (o : Out) (state : Stat
 
 abbrev pub Turns : Shape → List ℕ → State → List ℕ → List ℕ → List ℕ → State → List ℕ → List ℕ → List ℕ → Type 0
 Turns s gates state map out scratch state′ map′ out′ scratch′ =
-    (sources : List ℕ) (o : Out) → Going s sources gates o state map out scratch → Onward s sources gates o state′ map′ out′ scratch′ (toGo s gates state map scratch)
+    (sources : List ℕ) (o : Out) → Going s sources gates o state map out scratch
+    → Onward s sources gates o state′ map′ out′ scratch′ (toGo s gates state map scratch)
 
 -- a whole walk comes to what it came to
 abbrev pub Ended : Shape → List ℕ → List ℕ → Out → Walked → List ℕ → List ℕ → List ℕ → Type 0

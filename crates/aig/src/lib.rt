@@ -12,7 +12,7 @@ mod walks;
 
 ghost use mathlib.Core.Path.{_≡_};
 ghost use Rattle.circuit.specs.Map.{imageOf};
-ghost use Rattle.circuit.specs.Outcome.{lentOf, outcomeOf, outcome};
+ghost use Rattle.circuit.specs.Outcome.{left, outcome};
 use checks::Check;
 use circuit::Answer;
 use circuit::CircuitRecord;
@@ -48,7 +48,26 @@ pub fn renumber(
     gates_out: &mut [u32],
     scratch: &mut [u32],
 ) -> Answer
-    ensures { λ r. ⌜ outcomeOf r (now (map .exit)) (now («next_images» .exit)) (now («root_images» .exit)) (now («gates_out» .exit)) (now (scratch .exit)) ≡ outcome (lentOf circuit (now (inputs .entry)) (now (states .entry)) (now (nexts .entry)) (now (gates .entry)) (now (roots .entry)) (now (map .entry)) (now («next_images» .entry)) (now («root_images» .entry)) (now («gates_out» .entry)) (now (scratch .entry))) ⌝ }
+    ensures { λ r. ⌜ left (record {
+      answer = r;
+      map = now (map .exit);
+      nextImages = now («next_images» .exit);
+      rootImages = now («root_images» .exit);
+      gatesOut = now («gates_out» .exit);
+      scratch = now (scratch .exit);
+    }) ≡ outcome (record {
+      circuit = circuit;
+      inputs = now (inputs .entry);
+      states = now (states .entry);
+      nexts = now (nexts .entry);
+      gates = now (gates .entry);
+      roots = now (roots .entry);
+      map = now (map .entry);
+      nextImages = now («next_images» .entry);
+      rootImages = now («root_images» .entry);
+      gatesOut = now («gates_out» .entry);
+      scratch = now (scratch .entry);
+    }) ⌝ }
 {
     let check = checks::checked(
         circuit,

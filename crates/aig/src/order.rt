@@ -21,7 +21,8 @@ fn each(
     scratch: &mut [u32],
 ) -> Walked
     requires { ⌜ (0 < step) × (step ≤ 3) × CanGoOn shape (now gates) (everyFrom step 0 (now lits)) from (now map) (now out) (now scratch) ⌝ }
-    ensures { λ r. ⌜ GoesOn shape (now (gates .entry)) (everyFrom step 0 (now (lits .entry))) from (now (map .entry)) (now (out .entry)) (now (scratch .entry)) r (now (map .exit)) (now (out .exit)) (now (scratch .exit)) ⌝ }
+    ensures { λ r. ⌜ GoesOn shape (now (gates .entry)) (everyFrom step 0 (now (lits .entry))) from (now (map .entry)) (now (out .entry))
+        (now (scratch .entry)) r (now (map .exit)) (now (out .exit)) (now (scratch .exit)) ⌝ }
 {
     let mut end = from;
     let mut i = 0;
@@ -58,7 +59,8 @@ pub fn walked(
     scratch: &mut [u32],
 ) -> Walked
     requires { ⌜ CanWalk shape (now gates) 0 (turns trim (now gates) (now nexts) (now roots)) (now map) (now out) (now scratch) ⌝ }
-    ensures { λ r. ⌜ Walks shape (now (gates .entry)) 0 (turns trim (now (gates .entry)) (now (nexts .entry)) (now (roots .entry))) (now (map .entry)) (now (out .entry)) (now (scratch .entry)) r (now (map .exit)) (now (out .exit)) (now (scratch .exit)) ⌝ }
+    ensures { λ r. ⌜ Walks shape (now (gates .entry)) 0 (turns trim (now (gates .entry)) (now (nexts .entry)) (now (roots .entry))) (now (map .entry))
+        (now (out .entry)) (now (scratch .entry)) r (now (map .exit)) (now (out .exit)) (now (scratch .exit)) ⌝ }
 {
     let words = if trim { 0 } else { gates.len() };
     let end = each(

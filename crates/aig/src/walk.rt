@@ -93,7 +93,8 @@ impl Walk {
         scratch: &mut [u32],
     ) -> State
         requires { ⌜ ((out : List ℕ) × Walking shape (now gates) (State.Transfer self lit) (now map) out (now scratch)) ⌝ }
-        ensures { λ r. ⌜ ((out : List ℕ) → Turns shape (now (gates .entry)) (State.Transfer self lit) (now (map .entry)) out (now (scratch .entry)) r (now (map .entry)) out (now (scratch .exit))) ⌝ }
+        ensures { λ r. ⌜ ((out : List ℕ) → Turns shape (now (gates .entry)) (State.Transfer self lit) (now (map .entry)) out (now (scratch .entry)) r
+            (now (map .entry)) out (now (scratch .exit))) ⌝ }
     {
         let image = map::image(map, lit);
         if let Image::Code(_t) = image {
@@ -116,7 +117,8 @@ impl Walk {
     // The first input has its image: the second is next.
     fn first_input(self, shape: Shape, lit: Lit, gates: &[u32], scratch: &mut [u32]) -> State
         requires { ⌜ ((map : List ℕ) × (out : List ℕ) × Walking shape (now gates) (State.First self lit) map out (now scratch)) ⌝ }
-        ensures { λ r. ⌜ ((map out : List ℕ) → Turns shape (now (gates .entry)) (State.First self lit) map out (now (scratch .entry)) r map out (now (scratch .exit))) ⌝ }
+        ensures { λ r. ⌜ ((map out : List ℕ) → Turns shape (now (gates .entry)) (State.First self lit) map out (now (scratch .entry)) r map out
+            (now (scratch .exit))) ⌝ }
     {
         let number = table::gate_of(scratch, lit);
         let GateNumber::Number(k) = number else {
@@ -137,7 +139,8 @@ impl Walk {
         scratch: &mut [u32],
     ) -> State
         requires { ⌜ Walking shape (now gates) (State.Second self lit) (now map) (now out) (now scratch) ⌝ }
-        ensures { λ r. ⌜ Turns shape (now (gates .entry)) (State.Second self lit) (now (map .entry)) (now (out .entry)) (now (scratch .entry)) r (now (map .exit)) (now (out .exit)) (now (scratch .exit)) ⌝ }
+        ensures { λ r. ⌜ Turns shape (now (gates .entry)) (State.Second self lit) (now (map .entry)) (now (out .entry)) (now (scratch .entry)) r
+            (now (map .exit)) (now (out .exit)) (now (scratch .exit)) ⌝ }
     {
         let number = table::gate_of(scratch, lit);
         let GateNumber::Number(k) = number else {
@@ -248,7 +251,8 @@ pub fn run(
     scratch: &mut [u32],
 ) -> Walked
     requires { ⌜ Walking shape (now gates) start (now map) (now out) (now scratch) ⌝ }
-    ensures { λ r. ⌜ Runs shape (now (gates .entry)) start (now (map .entry)) (now (out .entry)) (now (scratch .entry)) r (now (map .exit)) (now (out .exit)) (now (scratch .exit)) ⌝ }
+    ensures { λ r. ⌜ Runs shape (now (gates .entry)) start (now (map .entry)) (now (out .entry)) (now (scratch .entry)) r (now (map .exit))
+        (now (out .exit)) (now (scratch .exit)) ⌝ }
 {
     let mut state = start;
     loop {

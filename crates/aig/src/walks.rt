@@ -22,7 +22,10 @@ pub fn walk_all(
     scratch: &mut [u32],
 ) -> Walked
     requires { ⌜ WalkIn (bare circuit (now inputs) (now states) (now nexts) (now gates) (now roots)) (now map) (now «gates_out») (now scratch) ⌝ }
-    ensures { λ r. ⌜ EndsIn (circuitIn circuit (now (inputs .entry)) (now (states .entry)) (now (nexts .entry)) (now (gates .entry)) (now (roots .entry))) (now (map .entry)) (now («gates_out» .entry)) (now (scratch .entry)) (renumber (circuitIn circuit (now (inputs .entry)) (now (states .entry)) (now (nexts .entry)) (now (gates .entry)) (now (roots .entry)))) r (now (map .exit)) (now («gates_out» .exit)) (now (scratch .exit)) ⌝ }
+    ensures { λ r. ⌜ EndsIn (circuitIn circuit (now (inputs .entry)) (now (states .entry)) (now (nexts .entry)) (now (gates .entry))
+        (now (roots .entry))) (now (map .entry)) (now («gates_out» .entry)) (now (scratch .entry))
+        (renumber (circuitIn circuit (now (inputs .entry)) (now (states .entry)) (now (nexts .entry)) (now (gates .entry)) (now (roots .entry)))) r
+        (now (map .exit)) (now («gates_out» .exit)) (now (scratch .exit)) ⌝ }
 {
     let check = beginning::prepare(circuit, inputs, states, gates, map, gates_out, scratch);
     if let Check::Failed(why) = check {

@@ -26,7 +26,8 @@ module _ (ys : List GateRecord) (xs : List ℕ) (i : ℕ) (room : i * 3 ≤ leng
 
   -- three stores lay one gate more
   pub laid-more : i < length ys → (i + 1) * 3 ≤ length xs
-      → set (set (set (laidOver i ys xs) (i * 3) (getD ys i noGate .output .0)) (i * 3 + 1) (getD ys i noGate .first .0)) (i * 3 + 2) (getD ys i noGate .second .0) ≡ laidOver (i + 1) ys xs
+      → set (set (set (laidOver i ys xs) (i * 3) (getD ys i noGate .output .0)) (i * 3 + 1) (getD ys i noGate .first .0)) (i * 3 + 2)
+      (getD ys i noGate .second .0) ≡ laidOver (i + 1) ys xs
   laid-more h more =
       let g = getD ys i noGate in
       let k = i * 3 in
@@ -40,9 +41,12 @@ module _ (ys : List GateRecord) (xs : List ℕ) (i : ℕ) (room : i * 3 ≤ leng
       (let e : k + 3 ≡ length p + 3 = omega arith in
       let f : k + 3 ≡ (i + 1) * 3 = omega arith in
       ap (λ (m : ℕ). drop m (laidOver i ys xs)) e ∙ drop-append-add p (drop k xs) 3 ∙ drop-drop 3 k xs ∙ ap (λ (m : ℕ). drop m xs) f) in
-      let one : flatOf (take (i + 1) ys) ≡ p ++ vs = ap (λ (m : ℕ). flatOf (take m ys)) (add-one i) ∙ ap flatOf (take-suc ys i noGate h) ∙ flat-append (take i ys) (g ∷ []) in
-      let stores : set (set (set (laidOver i ys xs) k (g .output .0)) (k + 1) (g .first .0)) (k + 2) (g .second .0) ≡ sets (laidOver i ys xs) k vs = rw (add-one k, two) in
-      stores ∙ sets-eq vs (laidOver i ys xs) k long ∙ ap₂ (λ (a d : List ℕ). a ++ vs ++ d) front back ∙ ap (λ (a : List ℕ). a ++ drop ((i + 1) * 3) xs) (sym one)
+      let one : flatOf (take (i + 1) ys) ≡ p ++ vs = ap (λ (m : ℕ). flatOf (take m ys)) (add-one i) ∙ ap flatOf (take-suc ys i noGate h)
+      ∙ flat-append (take i ys) (g ∷ []) in
+      let stores : set (set (set (laidOver i ys xs) k (g .output .0)) (k + 1) (g .first .0)) (k + 2) (g .second .0) ≡ sets (laidOver i ys xs) k vs
+      = rw (add-one k, two) in
+      stores ∙ sets-eq vs (laidOver i ys xs) k long ∙ ap₂ (λ (a d : List ℕ). a ++ vs ++ d) front back
+      ∙ ap (λ (a : List ℕ). a ++ drop ((i + 1) * 3) xs) (sym one)
 
 -- the front of a list, cleared, and the rest as it was
 pub front-length : (n : ℕ) (ws : List ℕ) → n ≤ length ws → n ≡ length (take n ws)

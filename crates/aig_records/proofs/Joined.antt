@@ -1,4 +1,5 @@
--- The checks, the records laid flat, and the rest come to the outcome with records. The checks on sizes and on the records say what those on the records laid flat
+-- The checks, the records laid flat, and the rest come to the outcome with records. The checks on sizes and on the records say what those on the
+-- records laid flat
 -- say; where they pass, nothing below refusal 5 can be answered; and the words that the records took are the first of the sixth list. Assumes nothing.
 use Prim.Native.Nat.{ℕ, _+_, _*_, _%_}
 use mathlib.Core.Path.{_≡_, refl, sym, ap, ap₂, _∙_, subst⁻¹}
@@ -55,7 +56,11 @@ module _ (l : Lent) (flat : List ℕ) (p : Tested l) where
   late Misshapen k = absurd (true≢false (sym (k .1) ∙ p .fits .two))
   late Short k = absurd (true≢false (sym (k .2) ∙ p .fits .three))
   late (Over d) k =
-      absurd (omega (arith, bounds l p (d .0) (subst⁻¹ (In (d .0)) (k .1 .splits) (In-right (d .0) (k .1 .before) (d .0 ∷ k .1 .after) (inl refl))), k .1 .isOver))
+      absurd (omega (
+        arith,
+        bounds l p (d .0) (subst⁻¹ (In (d .0)) (k .1 .splits) (In-right (d .0) (k .1 .before) (d .0 ∷ k .1 .after) (inl refl))),
+        k .1 .isOver,
+      ))
   late (Refusals.Again d) k = refl
   late (StateAgain d) k = refl
   late (Undefined d) k = refl
@@ -105,11 +110,13 @@ module _ (l : Lent) (flat : List ℕ) where
   unfolding renumber
   stops-4 f c e = conclusion-of l f ∙ rw e
 
-  judged : outcomeOfRecords l flat ≡ finished (verdict (tooBig C) (misshapen l) (tooShort l C || ltb (length flat) (length (l .gates))) (found (firstOver (2 * C .top + 1) (codes C)))) l flat
+  judged : outcomeOfRecords l flat ≡ finished (verdict (tooBig C) (misshapen l) (tooShort l C || ltb (length flat) (length (l .gates)))
+      (found (firstOver (2 * C .top + 1) (codes C)))) l flat
   unfolding outcomeOfRecords flatShort
   judged = go (tooBig C) refl (misshapen l) refl (tooShort l C) refl (ltb (length flat) (length (l .gates))) (firstOver (2 * C .top + 1) (codes C)) refl
     where
-      go : (b : Bool) → tooBig C ≡ b → (u : Bool) → misshapen l ≡ u → (s : Bool) → tooShort l C ≡ s → (f : Bool) → (o : Option ℕ) → firstOver (2 * C .top + 1) (codes C) ≡ o
+      go : (b : Bool) → tooBig C ≡ b → (u : Bool) → misshapen l ≡ u → (s : Bool) → tooShort l C ≡ s → (f : Bool) → (o : Option ℕ)
+          → firstOver (2 * C .top + 1) (codes C) ≡ o
           → cond (not b && not u && f) (withFlat (untouched l Short) flat) plain ≡ finished (verdict b u (s || f) (found o)) l flat
       go true p u q s r f o e = early TooBig refl (stops-1 p)
       go false p true q s r f o e = early Misshapen refl (stops-2 p q)
@@ -120,9 +127,19 @@ module _ (l : Lent) (flat : List ℕ) where
       go false p false q false r false none e =
           ap (withFlat (outcome l)) (cleared-after l flat (record { fits = record { one = p; two = q; three = r }; four = e }))
 
-module _ (circuit : CircuitRecord) (inputs states nexts : List ℕ) (gates : List GateRecord) (roots map nextImages rootImages gatesOut scratch flat : List ℕ) where
+module _ (circuit : CircuitRecord) (inputs states nexts : List ℕ) (gates : List GateRecord)
+    (roots map nextImages rootImages gatesOut scratch flat : List ℕ) where
   abbrev rooms : Rooms
-  rooms = record { map = length map; «next_images» = length nextImages; «root_images» = length rootImages; «gates_out» = length gatesOut; scratch = length scratch; flat = length flat }
+  rooms =
+      record {
+        map = length map;
+        «next_images» = length nextImages;
+        «root_images» = length rootImages;
+        «gates_out» = length gatesOut;
+        scratch = length
+            scratch;
+        flat = length flat;
+      }
 
   abbrev ck : Checked
   ck = checkedOf circuit inputs states nexts roots (length gates) (overIn (circuit .top) gates) rooms
@@ -148,9 +165,11 @@ module _ (circuit : CircuitRecord) (inputs states nexts : List ℕ) (gates : Lis
   unfolding lacks tooShort
   short-is =
       let words : 3 * length (gatesOf (flatOf gates)) ≡ length (flatOf gates) = omega (arith, flat-count gates, flat-length gates) in
-      ap (λ (g : ℕ). lacks (circuit .top .0) (length states) g (length roots) rooms) (sym (flat-count gates)) ∙ ap (λ (k : ℕ). tooShort l (circuitOf l) || ltb (length flat) k) words
+      ap (λ (g : ℕ). lacks (circuit .top .0) (length states) g (length roots) rooms) (sym (flat-count gates))
+      ∙ ap (λ (k : ℕ). tooShort l (circuitOf l) || ltb (length flat) k) words
 
-  first-is : overAll (circuit .top .0) inputs (overIn (circuit .top) gates) states nexts roots ≡ found (firstOver (2 * circuit .top .0 + 1) (codes (circuitOf l)))
+  first-is : overAll (circuit .top .0) inputs (overIn (circuit .top) gates) states nexts roots ≡ found
+      (firstOver (2 * circuit .top .0 + 1) (codes (circuitOf l)))
   unfolding codes
   first-is =
       let t = circuit .top .0 in
@@ -161,14 +180,18 @@ module _ (circuit : CircuitRecord) (inputs states nexts : List ℕ) (gates : Lis
       ∙ ap₂ orElse (ap (firstIn t) (flat-codes gates)) (over-append t (latchCodes states nexts) roots)))
 
   abbrev says : Check
-  says = verdict (tooBig (circuitOf l)) (misshapen l) (tooShort l (circuitOf l) || ltb (length flat) (length (flatOf gates))) (found (firstOver (2 * circuit .top .0 + 1) (codes (circuitOf l))))
+  says =
+      verdict (tooBig (circuitOf l)) (misshapen l) (tooShort l (circuitOf l) || ltb (length flat) (length (flatOf gates)))
+      (found (firstOver (2 * circuit .top .0 + 1) (codes (circuitOf l))))
 
   checked-is : ck ≡ planned (length gates) says
   unfolding checkedOf
   checked-is = λ i. planned (length gates) (verdict (big-is i) (uneven-is i) (short-is i) (first-is i))
 
   -- what is left to do finds the records laid flat
-  laid-is : (c : Check) → finished (planned (length gates) c .check) (lent (take (planned (length gates) c .laid * 3) (laidOver (planned (length gates) c .laid) gates flat))) (laidOver (planned (length gates) c .laid) gates flat) ≡ finished c l flat
+  laid-is : (c : Check) → finished (planned (length gates) c .check)
+      (lent (take (planned (length gates) c .laid * 3) (laidOver (planned (length gates) c .laid) gates flat)))
+      (laidOver (planned (length gates) c .laid) gates flat) ≡ finished c l flat
   laid-is (Failed why) = refl
   laid-is Passed =
       let k = length gates * 3 in
@@ -183,11 +206,14 @@ module _ (circuit : CircuitRecord) (inputs states nexts : List ℕ) (gates : Lis
       ap (λ (gs : List ℕ). finished Passed (lent gs) zs) front ∙ ap (λ (ws : List ℕ). withFlat (outcome l) (zeros m ++ ws)) back
 
   pub joined : finished (ck .check) (lent (take (ck .laid * 3) (laidOver (ck .laid) gates flat))) (laidOver (ck .laid) gates flat) ≡ outcomeOfRecords l flat
-  joined = ap (λ (k : Checked). finished (k .check) (lent (take (k .laid * 3) (laidOver (k .laid) gates flat))) (laidOver (k .laid) gates flat)) checked-is ∙ laid-is says ∙ sym (judged l flat)
+  joined =
+      ap (λ (k : Checked). finished (k .check) (lent (take (k .laid * 3) (laidOver (k .laid) gates flat))) (laidOver (k .laid) gates flat)) checked-is
+      ∙ laid-is says ∙ sym (judged l flat)
 
 -- what is left where the checks have passed: the flat entry on the front of the list, which is then cleared
 pub finish-passed : (l : Lent) (flat : List ℕ) (n : ℕ) → length (l .gates) ≡ n → (check : Check) → check ≡ Passed → (o : Outcome) → o ≡ outcome l
     → (ws : List ℕ) → ws ≡ zeros (length (l .gates)) → withFlat o (ws ++ drop n flat) ≡ finished check l flat
 finish-passed l flat n long check passed o answered ws cleared =
     let as-long : length (zeros (length (l .gates))) ≡ n = length-replicate (length (l .gates)) 0 ∙ long in
-    ap₂ withFlat answered (ap₂ (λ (front back : List ℕ). front ++ back) cleared (ap (λ (k : ℕ). drop k flat) (sym as-long))) ∙ sym (ap (λ (c : Check). finished c l flat) passed)
+    ap₂ withFlat answered (ap₂ (λ (front back : List ℕ). front ++ back) cleared (ap (λ (k : ℕ). drop k flat) (sym as-long)))
+    ∙ sym (ap (λ (c : Check). finished c l flat) passed)

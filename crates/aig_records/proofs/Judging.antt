@@ -81,16 +81,19 @@ module _ (circuit : CircuitRecord) (inputs states nexts roots : List ℕ) (gates
   unfolding lacks
   room-of n =
       let five : Bool =
-      ltb (rooms .map) (circuit .top .0 + 1) || ltb (rooms .«next_images») (length states) || ltb (rooms .«root_images») (length roots) || ltb (rooms .«gates_out») (2 * gates)
+      ltb (rooms .map) (circuit .top .0 + 1) || ltb (rooms .«next_images») (length states) || ltb (rooms .«root_images») (length roots) || ltb
+      (rooms .«gates_out») (2 * gates)
       || ltb (rooms .scratch) (3 * circuit .top .0 + 3 + 3 * gates) in ltb-false (rooms .flat) (3 * gates) (or-false five (ltb (rooms .flat) (3 * gates)) n .1)
 
   pub laid-in-room : whole .laid * 3 ≤ rooms .flat
   unfolding checkedOf
   laid-in-room =
-      go (overLimit (circuit .top .0) (length inputs) (length states) gates (length roots)) (unequal (circuit .counts) (length states) (length nexts) (length roots))
+      go (overLimit (circuit .top .0) (length inputs) (length states) gates (length roots))
+      (unequal (circuit .counts) (length states) (length nexts) (length roots))
       (lacks (circuit .top .0) (length states) gates (length roots) rooms) refl (overAll (circuit .top .0) inputs first states nexts roots)
     where
-      go : (b u s : Bool) → lacks (circuit .top .0) (length states) gates (length roots) rooms ≡ s → (f : Found) → planned gates (verdict b u s f) .laid * 3 ≤ rooms .flat
+      go : (b u s : Bool) → lacks (circuit .top .0) (length states) gates (length roots) rooms ≡ s → (f : Found)
+          → planned gates (verdict b u s f) .laid * 3 ≤ rooms .flat
       go true u s e f = omega arith
       go false true s e f = omega arith
       go false false true e f = omega arith

@@ -1,4 +1,5 @@
--- What renumbering with gate records promises, in the words of a caller: it is renumbering of the records laid flat, the sixth lent list is left or cleared, and the
+-- What renumbering with gate records promises, in the words of a caller: it is renumbering of the records laid flat, the sixth lent list is left or
+-- cleared, and the
 -- contract determines the answer and all six lists. Assumes nothing.
 use Prim.Native.Nat.{ℕ, _<_, _≤_}
 use mathlib.Core.Path.{_≡_, refl, sym, ap, subst⁻¹, _∙_}
@@ -36,7 +37,8 @@ use Rattle.aig_records.proofs.Joined.{early, cleared-after}
 use Rattle.aig_records.proofs.renumber_records as entry
 
 -- a record's codes stand output, first, second
-pub laid-in-order : flatOf (record { output = literal 6; first = literal 2; second = literal 4 } ∷ record { output = literal 8; first = literal 7; second = literal 3 } ∷ []) ≡ 6 ∷ 2 ∷ 4 ∷ 8 ∷ 7 ∷ 3 ∷ []
+pub laid-in-order : flatOf (record { output = literal 6; first = literal 2; second = literal 4 }
+    ∷ record { output = literal 8; first = literal 7; second = literal 3 } ∷ []) ≡ 6 ∷ 2 ∷ 4 ∷ 8 ∷ 7 ∷ 3 ∷ []
 laid-in-order = refl
 
 and-no : (b : Bool) → b && false ≡ false
@@ -47,7 +49,9 @@ module _ (l : Lent) (flat : List ℕ) where
   -- the sixth list has room: the answer and the five lists are those of the flat entry
   enough : length (l .gates) ≤ length flat → flatShort l flat ≡ false
   unfolding flatShort
-  enough h = ap (λ (b : Bool). not (tooBig (circuitOf l)) && not (misshapen l) && b) (le-ltb (length flat) (length (l .gates)) h) ∙ and-no (not (tooBig (circuitOf l)) && not (misshapen l))
+  enough h =
+      ap (λ (b : Bool). not (tooBig (circuitOf l)) && not (misshapen l) && b) (le-ltb (length flat) (length (l .gates)) h)
+      ∙ and-no (not (tooBig (circuitOf l)) && not (misshapen l))
 
   with-room : length (l .gates) ≤ length flat → outcomeOfRecords l flat ≡ withFlat (outcome l) (flatAfter l (outcome l .answer) flat)
   unfolding outcomeOfRecords
@@ -57,7 +61,8 @@ module _ (l : Lent) (flat : List ℕ) where
   as-flat h = ap (λ (o : FlatOutcome). o .outcome) (with-room h)
 
   -- it has not, and 1 and 2 pass: 3, and nothing is written
-  pub short-of-room : tooBig (circuitOf l) ≡ false → misshapen l ≡ false → length flat < length (l .gates) → outcomeOfRecords l flat ≡ withFlat (untouched l Short) flat
+  pub short-of-room : tooBig (circuitOf l) ≡ false → misshapen l ≡ false → length flat < length (l .gates)
+      → outcomeOfRecords l flat ≡ withFlat (untouched l Short) flat
   unfolding outcomeOfRecords flatShort
   short-of-room p q h = rw (p, q, lt-ltb (length flat) (length (l .gates)) h)
 
@@ -84,7 +89,8 @@ both-equal 𝓤 x y v =
 -- the answer and all six lists, as a caller sees them
 abbrev seen : (κs : Lfts 11) → Res entry.signature κs → AtExit entry.ended κs → FlatOutcome
 seen κs r e =
-    withFlat (outcomeOf r (now (e .1 .1 .1 .1 .1 .1 .0)) (now (e .1 .1 .1 .1 .1 .1 .1 .0)) (now (e .1 .1 .1 .1 .1 .1 .1 .1 .0)) (now (e .1 .1 .1 .1 .1 .1 .1 .1 .1 .0)) (now (e .1 .1 .1 .1 .1 .1 .1 .1 .1 .1 .0))) (now (e .1 .1 .1 .1 .1 .1 .1 .1 .1 .1 .1 .0))
+    withFlat (outcomeOf r (now (e .1 .1 .1 .1 .1 .1 .0)) (now (e .1 .1 .1 .1 .1 .1 .1 .0)) (now (e .1 .1 .1 .1 .1 .1 .1 .1 .0))
+    (now (e .1 .1 .1 .1 .1 .1 .1 .1 .1 .0)) (now (e .1 .1 .1 .1 .1 .1 .1 .1 .1 .1 .0))) (now (e .1 .1 .1 .1 .1 .1 .1 .1 .1 .1 .1 .0))
 
 pub renumber-records-determined : {M : Type 1} (𝓤 : URA M) (H : Heap 𝓤) (A : Atoms 𝓤) (mem : Memory → SProp 𝓤) (run : Routine → Fun 𝓤)
     → DeterminesSeen 𝓤 entry.ended (entry.clauses 𝓤 H A mem run) seen

@@ -5,7 +5,7 @@ mod verdict;
 ghost use mathlib.Core.Path.{_≡_};
 ghost use Prim.Native.Nat.{_*_, _≤_};
 ghost use lib.ListN.{length, take};
-ghost use Rattle.circuit.specs.Outcome.{lentOf, outcomeOf};
+ghost use Rattle.circuit.specs.Outcome.{left};
 ghost use Rattle.aig_records.specs.Records.{flatOf};
 ghost use Rattle.aig_records.specs.Outcome.{withFlat, outcomeOfRecords, finished};
 use checks::Check;
@@ -39,7 +39,26 @@ fn finish(
     flat: &mut [u32],
 ) -> Answer
     requires { ⌜ checked .laid * 3 ≤ length (now flat) ⌝ }
-    ensures { λ r. ⌜ withFlat (outcomeOf r (now (map .exit)) (now («next_images» .exit)) (now («root_images» .exit)) (now («gates_out» .exit)) (now (scratch .exit))) (now (flat .exit)) ≡ finished (checked .check) (lentOf circuit (now (inputs .entry)) (now (states .entry)) (now (nexts .entry)) (take (checked .laid * 3) (now (flat .entry))) (now (roots .entry)) (now (map .entry)) (now («next_images» .entry)) (now («root_images» .entry)) (now («gates_out» .entry)) (now (scratch .entry))) (now (flat .entry)) ⌝ }
+    ensures { λ r. ⌜ withFlat (left (record {
+      answer = r;
+      map = now (map .exit);
+      nextImages = now («next_images» .exit);
+      rootImages = now («root_images» .exit);
+      gatesOut = now («gates_out» .exit);
+      scratch = now (scratch .exit);
+    })) (now (flat .exit)) ≡ finished (checked .check) (record {
+      circuit = circuit;
+      inputs = now (inputs .entry);
+      states = now (states .entry);
+      nexts = now (nexts .entry);
+      gates = take (checked .laid * 3) (now (flat .entry));
+      roots = now (roots .entry);
+      map = now (map .entry);
+      nextImages = now («next_images» .entry);
+      rootImages = now («root_images» .entry);
+      gatesOut = now («gates_out» .entry);
+      scratch = now (scratch .entry);
+    }) (now (flat .entry)) ⌝ }
 {
     let check = checked.check;
     match check {
@@ -81,7 +100,26 @@ pub fn renumber_records(
     scratch: &mut [u32],
     flat: &mut [u32],
 ) -> Answer
-    ensures { λ r. ⌜ withFlat (outcomeOf r (now (map .exit)) (now («next_images» .exit)) (now («root_images» .exit)) (now («gates_out» .exit)) (now (scratch .exit))) (now (flat .exit)) ≡ outcomeOfRecords (lentOf circuit (now (inputs .entry)) (now (states .entry)) (now (nexts .entry)) (flatOf (now (gates .entry))) (now (roots .entry)) (now (map .entry)) (now («next_images» .entry)) (now («root_images» .entry)) (now («gates_out» .entry)) (now (scratch .entry))) (now (flat .entry)) ⌝ }
+    ensures { λ r. ⌜ withFlat (left (record {
+      answer = r;
+      map = now (map .exit);
+      nextImages = now («next_images» .exit);
+      rootImages = now («root_images» .exit);
+      gatesOut = now («gates_out» .exit);
+      scratch = now (scratch .exit);
+    })) (now (flat .exit)) ≡ outcomeOfRecords (record {
+      circuit = circuit;
+      inputs = now (inputs .entry);
+      states = now (states .entry);
+      nexts = now (nexts .entry);
+      gates = flatOf (now (gates .entry));
+      roots = now (roots .entry);
+      map = now (map .entry);
+      nextImages = now («next_images» .entry);
+      rootImages = now («root_images» .entry);
+      gatesOut = now («gates_out» .entry);
+      scratch = now (scratch .entry);
+    }) (now (flat .entry)) ⌝ }
 {
     let found = records::first_over(gates, circuit.top);
     let rooms = Rooms {

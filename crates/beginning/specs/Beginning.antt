@@ -29,7 +29,8 @@ cleaned n gates scratch = over (zeros (3 * n + 3 * (length gates / 3))) scratch
 -- the map at the start in the first n words of the map, zeros for the gates, and the table of definitions in the first n words of the scratch
 abbrev pub withTable : ℕ → Judged → List ℕ → List ℕ → List ℕ → List ℕ → List ℕ → List ℕ → Ready
 withTable n J inputs states gates map out scratch =
-    readyOf (J .said) (begun (take n map) inputs states ++ drop n map) (over (zeros (2 * (length gates / 3))) out) (J .words ++ drop n (cleaned n gates scratch))
+    readyOf (J .said) (begun (take n map) inputs states ++ drop n map) (over (zeros (2 * (length gates / 3))) out)
+    (J .words ++ drop n (cleaned n gates scratch))
 
 -- the whole, where the largest variable is `top`
 unfoldable pub prepared : ℕ → List ℕ → List ℕ → List ℕ → List ℕ → List ℕ → List ℕ → Ready

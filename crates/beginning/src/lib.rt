@@ -18,7 +18,8 @@ pub fn prepare(
     gates_out: &mut [u32],
     scratch: &mut [u32],
 ) -> Check
-    ensures { λ r. ⌜ readyOf r (now (map .exit)) (now («gates_out» .exit)) (now (scratch .exit)) ≡ prepared (circuit .top .0) (now (inputs .entry)) (now (states .entry)) (now (gates .entry)) (now (map .entry)) (now («gates_out» .entry)) (now (scratch .entry)) ⌝ }
+    ensures { λ r. ⌜ readyOf r (now (map .exit)) (now («gates_out» .exit)) (now (scratch .exit)) ≡ prepared (circuit .top .0) (now (inputs .entry))
+        (now (states .entry)) (now (gates .entry)) (now (map .entry)) (now («gates_out» .entry)) (now (scratch .entry)) ⌝ }
 {
     let top = circuit.top;
     let n = wide(top.index()) + 1;

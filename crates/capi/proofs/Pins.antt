@@ -64,7 +64,8 @@ pub circuits-shown :
     × (smallSeen (1 ∷ 0 ∷ 0 ∷ 0 ∷ 0 ∷ 0 ∷ []) 0 (9 ∷ 9 ∷ 9 ∷ 9 ∷ []) ≡ smallLeft 2 (0 ∷ 0 ∷ 0 ∷ 9 ∷ []))
     -- two answer words: 3, tested before the flags
     × (smallSeen (1 ∷ 0 ∷ 0 ∷ 0 ∷ 0 ∷ []) 8 (9 ∷ 9 ∷ []) ≡ smallLeft 3 (9 ∷ 9 ∷ []))
-unfolding renumberSeen misgiven outcome conclusion tooBig misshapen tooShort after renumber codes walkAll walked start store flipped walk look imageIn entryImage throughInputs settle settleOn settleAs already nextCode firstCode folded codeOf orderedOf imagesIn
+unfolding renumberSeen misgiven outcome conclusion tooBig misshapen tooShort after renumber codes walkAll walked start store flipped walk look imageIn
+    entryImage throughInputs settle settleOn settleAs already nextCode firstCode folded codeOf orderedOf imagesIn
 circuits-shown = (refl, refl, refl, refl, refl)
 
 -- 3. A circuit with all lists, under each setting of the flags.
@@ -108,7 +109,8 @@ answered made top map nexts roots gates =
     sees 0 (map ++ replicate 2 21) (nexts ++ replicate 3 22) (roots ++ replicate 2 23) (gates ++ replicate 5 24) (replicate 51 0 ++ replicate 6 25)
     (0 ∷ made ∷ top ∷ 29 ∷ 30 ∷ [])
 
--- new codes: 4, 2, 7 are 2, 4, 6, the latch states 10, 8 are 8, 10, and gates begin at 12. Variable 7 is not there. Trim (1) numbers 18 first and leaves 22 out;
+-- new codes: 4, 2, 7 are 2, 4, 6, the latch states 10, 8 are 8, 10, and gates begin at 12. Variable 7 is not there. Trim (1) numbers 18 first and
+-- leaves 22 out;
 -- hash (2) makes one gate of the twins; fold (4) gives 16 the image of 20
 pub settings-pinned :
     (call 11 counts 0 inputs states nexts gates roots
@@ -135,7 +137,8 @@ pub settings-pinned :
     × (call 11 counts 7 inputs states nexts gates roots
     ≡ answered 2 7 (0 ∷ 4 ∷ 2 ∷ 7 ∷ 10 ∷ 8 ∷ 15 ∷ gone ∷ 14 ∷ 12 ∷ 14 ∷ gone ∷ []) (13 ∷ 14 ∷ []) (14 ∷ 15 ∷ 12 ∷ 5 ∷ [])
     (11 ∷ 8 ∷ 4 ∷ 2 ∷ 0 ∷ 0 ∷ 0 ∷ 0 ∷ 0 ∷ 0 ∷ []))
-unfolding renumberSeen misgiven outcome conclusion tooBig misshapen tooShort after renumber codes walkAll walked start store flipped walk look imageIn entryImage throughInputs settle settleOn settleAs already nextCode firstCode folded codeOf orderedOf imagesIn
+unfolding renumberSeen misgiven outcome conclusion tooBig misshapen tooShort after renumber codes walkAll walked start store flipped walk look imageIn
+    entryImage throughInputs settle settleOn settleAs already nextCode firstCode folded codeOf orderedOf imagesIn
 settings-pinned = (refl, refl, refl, refl, refl, refl, refl, refl)
 
 -- 4. The same call, each time with something wrong.
@@ -173,7 +176,8 @@ pub refusals-pinned :
     × (call 11 counts 7 inputs states nexts (20 ∷ 2 ∷ 4 ∷ 13 ∷ 4 ∷ 2 ∷ 16 ∷ 20 ∷ 1 ∷ 18 ∷ 10 ∷ 15 ∷ 22 ∷ 18 ∷ 13 ∷ []) roots ≡ clear 7 15)
     -- 8: gate 20(2,17), where 16(20,1)
     × (call 11 counts 7 inputs states nexts (20 ∷ 2 ∷ 17 ∷ 13 ∷ 4 ∷ 2 ∷ 16 ∷ 20 ∷ 1 ∷ 18 ∷ 10 ∷ 9 ∷ 22 ∷ 18 ∷ 13 ∷ []) roots ≡ clear 8 17)
-unfolding renumberSeen misgiven outcome conclusion tooBig misshapen tooShort after renumber codes walkAll walked start store flipped walk look imageIn entryImage throughInputs settle settleOn settleAs already nextCode firstCode folded codeOf orderedOf imagesIn
+unfolding renumberSeen misgiven outcome conclusion tooBig misshapen tooShort after renumber codes walkAll walked start store flipped walk look imageIn
+    entryImage throughInputs settle settleOn settleAs already nextCode firstCode folded codeOf orderedOf imagesIn
 refusals-pinned = (refl, refl, refl, refl, refl, refl, refl, refl, refl, refl, refl, refl, refl, refl)
 
 -- the circuit with all lists under all three flags, with so many words lent of the map, next images, root images, gates out and scratch, and these answer words
@@ -206,7 +210,8 @@ pub rooms-pinned :
     × (lends 8 12 2 4 10 51 (26 ∷ 27 ∷ []) ≡ keeps 3 12 2 4 10 51 (26 ∷ 27 ∷ []))
     -- flags 8 before a list that is too short: 2
     × (lends 8 11 2 4 10 51 (26 ∷ 27 ∷ 28 ∷ []) ≡ keeps 2 11 2 4 10 51 (0 ∷ 0 ∷ 0 ∷ []))
-unfolding renumberSeen misgiven outcome conclusion tooBig misshapen tooShort after renumber codes walkAll walked start store flipped walk look imageIn entryImage throughInputs settle settleOn settleAs already nextCode firstCode folded codeOf orderedOf imagesIn
+unfolding renumberSeen misgiven outcome conclusion tooBig misshapen tooShort after renumber codes walkAll walked start store flipped walk look imageIn
+    entryImage throughInputs settle settleOn settleAs already nextCode firstCode folded codeOf orderedOf imagesIn
 rooms-pinned = (refl, refl, refl, refl, refl, refl, refl, refl, refl, refl)
 
 -- 5. The words of the inner contracts: what is refused before there is a record, and an answer as a number and three words.
@@ -217,7 +222,8 @@ pub words-pinned :
     × (firstNumber counts 8 (26 ∷ 27 ∷ 28 ∷ 29 ∷ []) ≡ 2) × (firstWords counts 8 (26 ∷ 27 ∷ 28 ∷ 29 ∷ []) ≡ 0 ∷ 0 ∷ 0 ∷ 29 ∷ [])
     × (firstNumber counts 8 (26 ∷ 27 ∷ 28 ∷ []) ≡ 2) × (firstWords counts 8 (26 ∷ 27 ∷ 28 ∷ []) ≡ 0 ∷ 0 ∷ 0 ∷ [])
     × (firstNumber counts 8 (26 ∷ 27 ∷ []) ≡ 3) × (firstWords counts 8 (26 ∷ 27 ∷ []) ≡ 26 ∷ 27 ∷ [])
-    × (answerNumber (Renumbered (record { made = 5; top = variable 10 })) ≡ 0) × (answerWords (Renumbered (record { made = 5; top = variable 10 })) ≡ 0 ∷ 5 ∷ 10 ∷ [])
+    × (answerNumber (Renumbered (record { made = 5; top = variable 10 })) ≡ 0)
+    × (answerWords (Renumbered (record { made = 5; top = variable 10 })) ≡ 0 ∷ 5 ∷ 10 ∷ [])
     × (answerNumber (Refused TooBig) ≡ 1) × (answerWords (Refused TooBig) ≡ 0 ∷ 0 ∷ 0 ∷ [])
     × (answerNumber (Refused (Deep (literal 18))) ≡ 9) × (answerWords (Refused (Deep (literal 18))) ≡ 18 ∷ 0 ∷ 0 ∷ [])
 unfolding misgiven firstNumber firstWords

@@ -95,7 +95,8 @@ pub record Taken (counts : List ℕ) (flags : ℕ) (words ws : List ℕ) : Type 
 pub taken-room : {counts : List ℕ} {flags : ℕ} {words ws : List ℕ} → Taken counts flags words ws → 3 ≤ length ws
 taken-room t = rw (t .stay) (t .room)
 
-module _ (counts : List ℕ) (flags : ℕ) (words : List ℕ) (n : ℕ) (ws : List ℕ) (p : (n ≡ firstNumber counts flags words) × (ws ≡ firstWords counts flags words)) where
+module _ (counts : List ℕ) (flags : ℕ) (words : List ℕ) (n : ℕ) (ws : List ℕ)
+    (p : (n ≡ firstNumber counts flags words) × (ws ≡ firstWords counts flags words)) where
   pub taken : n ≡ 0 → Taken counts flags words ws
   unfolding firstNumber firstWords
   taken z = go (ltb (length words) 3) (misgiven counts flags) refl refl (sym z ∙ p .0) (p .1)

@@ -1,4 +1,5 @@
--- What follows of the C entries' contracts: each allows one outcome, and what C sees of it is all that is demanded. Calls of the entry for renumbering by example, with every word, stand in Pins. Assumes nothing.
+-- What follows of the C entries' contracts: each allows one outcome, and what C sees of it is all that is demanded. Calls of the entry for
+-- renumbering by example, with every word, stand in Pins. Assumes nothing.
 pub use Rattle.capi.proofs.Pins.{seen-pinned, flags-told, circuits-shown, settings-pinned, refusals-pinned, rooms-pinned, words-pinned}
 use Prim.Native.Nat.{ℕ, _≤_}
 use mathlib.Core.Path.{_≡_, sym, _∙_, ap}
@@ -23,7 +24,15 @@ one-imdagluz-delta κs a x y e f p q = (p .0 ∙ sym (q .0), p .1 ∙ sym (q .1)
 -- of `imdagluz_renumber` the number, each of the five lists, and the answer words
 pub one-imdagluz-renumber :
     DeterminesCells 12 renumber-kinds.ps renumber-kinds.r renumber-promise.Learnt {A = List ℕ × List ℕ × List ℕ × List ℕ × List ℕ × List ℕ}
-    (λ κs e. (now (e .1 .1 .1 .1 .1 .1 .1 .1 .0), now (e .1 .1 .1 .1 .1 .1 .1 .1 .1 .0), now (e .1 .1 .1 .1 .1 .1 .1 .1 .1 .1 .0), now (e .1 .1 .1 .1 .1 .1 .1 .1 .1 .1 .1 .0), now (e .1 .1 .1 .1 .1 .1 .1 .1 .1 .1 .1 .1 .0), now (e .1 .1 .1 .1 .1 .1 .1 .1 .1 .1 .1 .1 .1 .0)))
+    (λ κs e. (
+      now (e .1 .1 .1 .1 .1 .1 .1 .1 .0),
+      now (e .1 .1 .1 .1 .1 .1 .1 .1 .1 .0),
+      now (e .1 .1 .1 .1 .1 .1 .1 .1 .1 .1 .0),
+      now
+          (e .1 .1 .1 .1 .1 .1 .1 .1 .1 .1 .1 .0),
+      now (e .1 .1 .1 .1 .1 .1 .1 .1 .1 .1 .1 .1 .0),
+      now (e .1 .1 .1 .1 .1 .1 .1 .1 .1 .1 .1 .1 .1 .0),
+    ))
 one-imdagluz-renumber κs a x y e f p q =
     (ap (λ (s : Seen). s .number) (p ∙ sym q), ap (λ (s : Seen). (s .map, s .nextImages, s .rootImages, s .gatesOut, s .scratch, s .words)) (p ∙ sym q))
 

@@ -43,6 +43,10 @@ abbrev pub recordOf : ℕ → List ℕ → ℕ → CircuitRecord
 recordOf top counts flags =
     record { top = variable top; counts = counts; trim = isSet flags; hash = isSet (flags / 2); fold = isSet (flags / 4) }
 
+-- what C sees when a call returns, as the contract writes it down, a field a line
+abbrev pub seen : Seen → Seen
+seen s = s
+
 -- there are not five counts, or the flags are over 7
 unfoldable pub misgiven : List ℕ → ℕ → Bool
 misgiven counts flags = not (eqb (length counts) 5) || ltb 7 flags

@@ -3,14 +3,14 @@ mod renumber;
 
 ghost use mathlib.Core.Path.{_≡_};
 ghost use Rattle.delta_bytes.specs.Delta.{deltaNumber, deltaBytes};
-ghost use Rattle.circuit.specs.Outcome.{lentOf};
-ghost use Rattle.capi.specs.Renumber.{seenOf, recordOf, renumberSeen};
+ghost use Rattle.capi.specs.Renumber.{seen, recordOf, renumberSeen};
 
 // One delta at a place: 0, with the value, low byte first, in the first eight lent bytes and the count of bytes used in the ninth; or a
 // refusal's number, and the lent bytes as they were. Fewer than nine lent bytes is refusal 3, tested first.
 #[no_mangle]
 pub extern "C" fn imdagluz_delta(s: &[u8], at: usize, reference: u64, out: &mut [u8]) -> u32
-    ensures { λ r. ⌜ (r ≡ deltaNumber (now (s .entry)) at reference (now (out .entry))) × (now (out .exit) ≡ deltaBytes (now (s .entry)) at reference (now (out .entry))) ⌝ }
+    ensures { λ r. ⌜ (r ≡ deltaNumber (now (s .entry)) at reference (now (out .entry)))
+        × (now (out .exit) ≡ deltaBytes (now (s .entry)) at reference (now (out .entry))) ⌝ }
 {
     delta_bytes::put_delta(s, at, reference, out)
 }
@@ -35,7 +35,27 @@ pub extern "C" fn imdagluz_renumber(
     scratch: &mut [u32],
     answer: &mut [u32],
 ) -> u32
-    ensures { λ r. ⌜ seenOf r (now (map .exit)) (now («next_images» .exit)) (now («root_images» .exit)) (now («gates_out» .exit)) (now (scratch .exit)) (now (answer .exit)) ≡ renumberSeen (now (counts .entry)) flags (lentOf (recordOf top (now (counts .entry)) flags) (now (inputs .entry)) (now (states .entry)) (now (nexts .entry)) (now (gates .entry)) (now (roots .entry)) (now (map .entry)) (now («next_images» .entry)) (now («root_images» .entry)) (now («gates_out» .entry)) (now (scratch .entry))) (now (answer .entry)) ⌝ }
+    ensures { λ r. ⌜ seen (record {
+      number = r;
+      map = now (map .exit);
+      nextImages = now («next_images» .exit);
+      rootImages = now («root_images» .exit);
+      gatesOut = now («gates_out» .exit);
+      scratch = now (scratch .exit);
+      words = now (answer .exit);
+    }) ≡ renumberSeen (now (counts .entry)) flags (record {
+      circuit = recordOf top (now (counts .entry)) flags;
+      inputs = now (inputs .entry);
+      states = now (states .entry);
+      nexts = now (nexts .entry);
+      gates = now (gates .entry);
+      roots = now (roots .entry);
+      map = now (map .entry);
+      nextImages = now («next_images» .entry);
+      rootImages = now («root_images» .entry);
+      gatesOut = now («gates_out» .entry);
+      scratch = now (scratch .entry);
+    }) (now (answer .entry)) ⌝ }
 {
     let first = renumber::refused_first(counts, flags, answer);
     if first != 0 {

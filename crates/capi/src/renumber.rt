@@ -46,7 +46,8 @@ fn put_words(words: &mut [u32], literal: u32, made: u32, top: u32)
 // What is refused before there is a record to check: 3 where there are fewer than three answer words, which stay; then 2 where the counts or the
 // flags can't be taken, and the answer words say nothing; else 0, and they stay.
 pub fn refused_first(counts: &[u32], flags: u32, answer: &mut [u32]) -> u32
-    ensures { λ r. ⌜ (r ≡ firstNumber (now (counts .entry)) flags (now (answer .entry))) × (now (answer .exit) ≡ firstWords (now (counts .entry)) flags (now (answer .entry))) ⌝ }
+    ensures { λ r. ⌜ (r ≡ firstNumber (now (counts .entry)) flags (now (answer .entry)))
+        × (now (answer .exit) ≡ firstWords (now (counts .entry)) flags (now (answer .entry))) ⌝ }
 {
     if answer.len() < 3 {
         return 3;

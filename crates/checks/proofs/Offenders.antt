@@ -42,7 +42,8 @@ pub over-here : (bound : ℕ) (cs : List ℕ) (i w : ℕ) (x : Lit) → i < leng
     → Literal x ≡ found (firstOver bound (drop i cs))
 over-here bound cs i w x h s p e = rw (drop-at-one cs i 0 h, lt-leb _ _ (over-word s p)) (ap Literal e)
 
-pub over-on : (bound : ℕ) (cs : List ℕ) (i w : ℕ) → i < length cs → w ≡ getD cs i 0 → w ≤ bound → firstOver bound (drop i cs) ≡ firstOver bound (drop (i + 1) cs)
+pub over-on : (bound : ℕ) (cs : List ℕ) (i w : ℕ) → i < length cs → w ≡ getD cs i 0 → w ≤ bound
+    → firstOver bound (drop i cs) ≡ firstOver bound (drop (i + 1) cs)
 over-on bound cs i w h s p = rw (drop-at-one cs i 0 h, le-leb _ _ (within-word s p))
 
 pub over-end : (bound : ℕ) (cs : List ℕ) (i : ℕ) → length cs ≤ i → Nothing ≡ found (firstOver bound (drop i cs))

@@ -164,10 +164,13 @@ module _ (l : Lent) (r₁ : Bool) (e₁ : r₁ ≡ tooBig (circuitIn (l .circuit
     fail-2 t = rw (sym e₁ ∙ n₁, sym e₂ ∙ t)
 
     pub shaped : r₂ ≡ false → Shaped (l .states) (l .nexts) (l .gates)
-    shaped n = let a = agrees (lentOf (l .circuit) [] (l .states) (l .nexts) (l .gates) (l .roots) [] [] [] [] []) (sym e₂ ∙ n) in record { latches = a .latches; whole = a .words }
+    shaped n =
+        let a = agrees (lentOf (l .circuit) [] (l .states) (l .nexts) (l .gates) (l .roots) [] [] [] [] []) (sym e₂ ∙ n) in
+        record { latches = a .latches; whole = a .words }
 
     module _ (n₂ : r₂ ≡ false) (r₃ : Bool)
-        (e₃ : r₃ ≡ tooShort (lentOf (l .circuit) [] (l .states) [] (l .gates) (l .roots) (l .map) (l .nextImages) (l .rootImages) (l .gatesOut) (l .scratch)) (circuitIn (l .circuit) [] (l .states) [] (l .gates) (l .roots))) where
+        (e₃ : r₃ ≡ tooShort (lentOf (l .circuit) [] (l .states) [] (l .gates) (l .roots) (l .map) (l .nextImages) (l .rootImages) (l .gatesOut)
+        (l .scratch)) (circuitIn (l .circuit) [] (l .states) [] (l .gates) (l .roots))) where
       pub fail-3 : r₃ ≡ true → Failed Short ≡ passing l
       unfolding passing tooBig misshapen tooShort
       fail-3 t = rw (sym e₁ ∙ n₁, sym e₂ ∙ n₂, sym e₃ ∙ t)

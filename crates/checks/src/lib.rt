@@ -3,7 +3,7 @@ ghost use mathlib.Core.Path.{_≡_};
 ghost use Prim.Native.Nat.{_+_, _*_, _%_};
 ghost use mathlib.Core.List.{[]};
 ghost use lib.ListN.{length};
-ghost use Rattle.circuit.specs.Outcome.{lentOf, total, tooBig, misshapen, tooShort};
+ghost use Rattle.circuit.specs.Outcome.{total, tooBig, misshapen, tooShort};
 ghost use Rattle.circuit.specs.Circuit.{latchCodes, codes, firstOver};
 ghost use Rattle.checks.specs.Lending.{circuitIn};
 ghost use Rattle.checks.specs.Checks.{found, passing, Counted, Shaped};
@@ -74,7 +74,19 @@ fn is_misshapen(
     gates: &[u32],
     roots: &[u32],
 ) -> bool
-    ensures { λ r. ⌜ r ≡ misshapen (lentOf circuit [] (now (states .entry)) (now (nexts .entry)) (now (gates .entry)) (now (roots .entry)) [] [] [] [] []) ⌝ }
+    ensures { λ r. ⌜ r ≡ misshapen (record {
+      circuit = circuit;
+      inputs = [];
+      states = now (states .entry);
+      nexts = now (nexts .entry);
+      gates = now (gates .entry);
+      roots = now (roots .entry);
+      map = [];
+      nextImages = [];
+      rootImages = [];
+      gatesOut = [];
+      scratch = [];
+    }) ⌝ }
 {
     let counts = circuit.counts;
     if sum(counts) != roots.len() {
@@ -97,7 +109,19 @@ fn is_short(
     gates_out: &[u32],
     scratch: &[u32],
 ) -> bool
-    ensures { λ r. ⌜ r ≡ tooShort (lentOf circuit [] (now (states .entry)) [] (now (gates .entry)) (now (roots .entry)) (now (map .entry)) (now («next_images» .entry)) (now («root_images» .entry)) (now («gates_out» .entry)) (now (scratch .entry))) (circuitIn circuit [] (now (states .entry)) [] (now (gates .entry)) (now (roots .entry))) ⌝ }
+    ensures { λ r. ⌜ r ≡ tooShort (record {
+      circuit = circuit;
+      inputs = [];
+      states = now (states .entry);
+      nexts = [];
+      gates = now (gates .entry);
+      roots = now (roots .entry);
+      map = now (map .entry);
+      nextImages = now («next_images» .entry);
+      rootImages = now («root_images» .entry);
+      gatesOut = now («gates_out» .entry);
+      scratch = now (scratch .entry);
+    }) (circuitIn circuit [] (now (states .entry)) [] (now (gates .entry)) (now (roots .entry))) ⌝ }
 {
     let top = circuit.top;
     let v = wide(top.index());
@@ -164,7 +188,8 @@ fn over(
     roots: &[u32],
 ) -> Found
     requires { ⌜ Shaped (now states) (now nexts) (now gates) ⌝ }
-    ensures { λ r. ⌜ r ≡ found (firstOver (2 * circuit .top .0 + 1) (codes (circuitIn circuit (now (inputs .entry)) (now (states .entry)) (now (nexts .entry)) (now (gates .entry)) (now (roots .entry))))) ⌝ }
+    ensures { λ r. ⌜ r ≡ found (firstOver (2 * circuit .top .0 + 1)
+        (codes (circuitIn circuit (now (inputs .entry)) (now (states .entry)) (now (nexts .entry)) (now (gates .entry)) (now (roots .entry))))) ⌝ }
 {
     let top = circuit.top;
     let bound = 2 * wide(top.index()) + 1;
@@ -197,7 +222,19 @@ pub fn checked(
     gates_out: &[u32],
     scratch: &[u32],
 ) -> Check
-    ensures { λ r. ⌜ r ≡ passing (lentOf circuit (now (inputs .entry)) (now (states .entry)) (now (nexts .entry)) (now (gates .entry)) (now (roots .entry)) (now (map .entry)) (now («next_images» .entry)) (now («root_images» .entry)) (now («gates_out» .entry)) (now (scratch .entry))) ⌝ }
+    ensures { λ r. ⌜ r ≡ passing (record {
+      circuit = circuit;
+      inputs = now (inputs .entry);
+      states = now (states .entry);
+      nexts = now (nexts .entry);
+      gates = now (gates .entry);
+      roots = now (roots .entry);
+      map = now (map .entry);
+      nextImages = now («next_images» .entry);
+      rootImages = now («root_images» .entry);
+      gatesOut = now («gates_out» .entry);
+      scratch = now (scratch .entry);
+    }) ⌝ }
 {
     if too_big(circuit, inputs, states, gates, roots) {
         return Check::Failed(Refusal::TooBig);

@@ -63,7 +63,8 @@ module _ (l : Lent) (w : Work) (e : conclusion l ≡ reached w) where
   after : (c : ℕ) → entry (w .images) (var c) ≢ noImage → imageAfter (outcome l) c ≡ codeIn (w .images) c
   after c n = ap (λ (x : ℕ). flipped x c) (cell (var c) (mapped-low (var c) n))
 
-  pub image-cell : (c : ℕ) (t : Lit) → HasImage l (outcome l) c t ↔ ((var c ≤ C .top) × (getD (outcome l .map) (var c) 0 ≢ noImage) × (t .0 ≡ imageAfter (outcome l) c))
+  pub image-cell : (c : ℕ) (t : Lit) → HasImage l (outcome l) c t
+      ↔ ((var c ≤ C .top) × (getD (outcome l .map) (var c) 0 ≢ noImage) × (t .0 ≡ imageAfter (outcome l) c))
   image-cell c t = (to, from)
     where
       to : HasImage l (outcome l) c t → (var c ≤ C .top) × (getD (outcome l .map) (var c) 0 ≢ noImage) × (t .0 ≡ imageAfter (outcome l) c)
@@ -91,12 +92,14 @@ module _ (l : Lent) (w : Work) (e : conclusion l ≡ reached w) where
   smaller-is g b = ap₂ min (after (g .first) (b .0)) (after (g .second) (b .1))
 
   -- the rows as computed, on the cells
-  row-after : (g : Gate) → BothMapped (w .images) g → RowIf (C .fold) (largerAfter (outcome l) g) (smallerAfter (outcome l) g) (foldedIf (C .fold) (largerIn (w .images) g) (smallerIn (w .images) g))
+  row-after : (g : Gate) → BothMapped (w .images) g
+      → RowIf (C .fold) (largerAfter (outcome l) g) (smallerAfter (outcome l) g) (foldedIf (C .fold) (largerIn (w .images) g) (smallerIn (w .images) g))
   row-after g b =
       subst (RowIf (C .fold) (largerAfter (outcome l) g) (smallerAfter (outcome l) g)) (ap₂ (foldedIf (C .fold)) (larger-is g b) (smaller-is g b))
       (rowIf (C .fold) (largerAfter (outcome l) g) (smallerAfter (outcome l) g))
 
-  taken : (g : Gate) → BothMapped (w .images) g → (t : ℕ) → foldedIf (C .fold) (largerIn (w .images) g) (smallerIn (w .images) g) ≡ some t → Taken l (outcome l) g t
+  taken : (g : Gate) → BothMapped (w .images) g → (t : ℕ) → foldedIf (C .fold) (largerIn (w .images) g) (smallerIn (w .images) g) ≡ some t
+      → Taken l (outcome l) g t
   taken g b t = go (foldedIf (C .fold) (largerIn (w .images) g) (smallerIn (w .images) g)) (row-after g b)
     where
       go : (o : Option ℕ) → RowIf (C .fold) (largerAfter (outcome l) g) (smallerAfter (outcome l) g) o → o ≡ some t → Taken l (outcome l) g t
@@ -153,7 +156,8 @@ module _ (l : Lent) (w : Work) (e : conclusion l ≡ reached w) where
 
   module _ (s : Summary) (sums : s .made ≡ length (w .made)) where
     is-new : (g : Gate) → entry (w .images) (outVar g) ≢ noImage → BothMapped (w .images) g → (j : ℕ) → j < length (w .made)
-        → codeIn (w .images) (g .output) ≡ firstCode (sourceCount (net C)) + 2 * j → getD (w .made) j noPair ≡ pair (largerIn (w .images) g) (smallerIn (w .images) g)
+        → codeIn (w .images) (g .output) ≡ firstCode (sourceCount (net C)) + 2 * j
+        → getD (w .made) j noPair ≡ pair (largerIn (w .images) g) (smallerIn (w .images) g)
         → IsNew l (outcome l) s g j
     unfolding firstCode
     is-new g n b j h code words =
@@ -207,7 +211,8 @@ module _ (l : Lent) (w : Work) (e : conclusion l ≡ reached w) where
     scratch-filled =
         let is : outcome l .scratch ≡ onto (zeros (scratchWords C)) (l .scratch) = ap (λ (o : Outcome). o .scratch) (success-of l w e) in
         subst⁻¹ (Filled (scratchWords C) 0 (l .scratch)) is
-        (filled (scratchWords C) 0 (l .scratch) (roomy l (S.facts l w e .0 .three) .scratch) (subst (Keeps (scratchWords C) (l .scratch)) is (keeps-past l .scratch)))
+        (filled (scratchWords C) 0 (l .scratch) (roomy l (S.facts l w e .0 .three) .scratch)
+        (subst (Keeps (scratchWords C) (l .scratch)) is (keeps-past l .scratch)))
 
     pub fills : Fills l C (outcome l) s
     fills =
@@ -253,12 +258,14 @@ module _ (l : Lent) (w : Work) (e : conclusion l ≡ reached w) where
     its-place : (g : Gate) → Stays l (outcome l) g → (j : ℕ) × IsNew l (outcome l) s g j
     its-place g k = go (ruled g (k .isGate) (k .isReached) .became)
       where
-        go : Taken l (outcome l) g (imageAfter (outcome l) (g .output)) ⊎ (Untaken l (outcome l) g × ((j : ℕ) × IsNew l (outcome l) s g j)) → (j : ℕ) × IsNew l (outcome l) s g j
+        go : Taken l (outcome l) g (imageAfter (outcome l) (g .output)) ⊎ (Untaken l (outcome l) g × ((j : ℕ) × IsNew l (outcome l) s g j)) → (j : ℕ)
+            × IsNew l (outcome l) s g j
         go (inl t) = absurd (k .untaken (imageAfter (outcome l) (g .output)) t)
         go (inr r) = r .1
 
     -- with hashing off, of its own
-    pub kept-apart : C .hash ≡ false → (g : Gate) → Stays l (outcome l) g → (j : ℕ) × IsNew l (outcome l) s g j × ((g′ : Gate) → Stays l (outcome l) g′ → IsNew l (outcome l) s g′ j → g ≡ g′)
+    pub kept-apart : C .hash ≡ false → (g : Gate) → Stays l (outcome l) g → (j : ℕ) × IsNew l (outcome l) s g j
+        × ((g′ : Gate) → Stays l (outcome l) g′ → IsNew l (outcome l) s g′ j → g ≡ g′)
     kept-apart off g k = let p = its-place g k in (p .0, p .1, λ g′ k′ q. alone g′ k′ (p .1 .code ∙ sym (q .code)))
       where
         alone : (g′ : Gate) → Stays l (outcome l) g′ → imageAfter (outcome l) (g .output) ≡ imageAfter (outcome l) (g′ .output) → g ≡ g′
@@ -275,10 +282,12 @@ module _ (l : Lent) (w : Work) (e : conclusion l ≡ reached w) where
 
     -- with hashing on, the same exactly when their inputs' images are the same
     pub shared : C .hash ≡ true → (g g′ : Gate) → Stays l (outcome l) g → Stays l (outcome l) g′
-        → (imageAfter (outcome l) (g .output) ≡ imageAfter (outcome l) (g′ .output)) ↔ ((largerAfter (outcome l) g ≡ largerAfter (outcome l) g′) × (smallerAfter (outcome l) g ≡ smallerAfter (outcome l) g′))
+        → (imageAfter (outcome l) (g .output) ≡ imageAfter (outcome l) (g′ .output))
+        ↔ ((largerAfter (outcome l) g ≡ largerAfter (outcome l) g′) × (smallerAfter (outcome l) g ≡ smallerAfter (outcome l) g′))
     shared on g g′ k k′ = (to (its-place g k) (its-place g′ k′), from (its-place g k) (its-place g′ k′))
       where
-        to : (j : ℕ) × IsNew l (outcome l) s g j → (j′ : ℕ) × IsNew l (outcome l) s g′ j′ → imageAfter (outcome l) (g .output) ≡ imageAfter (outcome l) (g′ .output)
+        to : (j : ℕ) × IsNew l (outcome l) s g j → (j′ : ℕ) × IsNew l (outcome l) s g′ j′
+            → imageAfter (outcome l) (g .output) ≡ imageAfter (outcome l) (g′ .output)
             → (largerAfter (outcome l) g ≡ largerAfter (outcome l) g′) × (smallerAfter (outcome l) g ≡ smallerAfter (outcome l) g′)
         to a b q =
             let p : a .0 ≡ b .0 = omega (arith, a .1 .code, b .1 .code, q) in (
@@ -286,7 +295,8 @@ module _ (l : Lent) (w : Work) (e : conclusion l ≡ reached w) where
               sym (a .1 .smaller) ∙ ap (λ (j : ℕ). getD (outcome l .gatesOut) (2 * j + 1) 0) p ∙ b .1 .smaller,
             )
 
-        from : (j : ℕ) × IsNew l (outcome l) s g j → (j′ : ℕ) × IsNew l (outcome l) s g′ j′ → (largerAfter (outcome l) g ≡ largerAfter (outcome l) g′) × (smallerAfter (outcome l) g ≡ smallerAfter (outcome l) g′)
+        from : (j : ℕ) × IsNew l (outcome l) s g j → (j′ : ℕ) × IsNew l (outcome l) s g′ j′ → (largerAfter (outcome l) g ≡ largerAfter (outcome l) g′)
+            × (smallerAfter (outcome l) g ≡ smallerAfter (outcome l) g′)
             → imageAfter (outcome l) (g .output) ≡ imageAfter (outcome l) (g′ .output)
         from a b q =
             a .1 .code ∙ ap (λ (j : ℕ). 2 * (length (l .inputs) + length (l .states) + 1 + j)) (go (lt-or (a .0) (b .0)) (lt-or (b .0) (a .0)))

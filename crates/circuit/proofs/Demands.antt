@@ -1,4 +1,5 @@
--- The customer's demands, proved of the outcome that renumbering has by definition. specs/Demands.antt says what is demanded, in the words of specs/Claims.antt;
+-- The customer's demands, proved of the outcome that renumbering has by definition. specs/Demands.antt says what is demanded, in the words of
+-- specs/Claims.antt;
 -- here is that it holds, and that words of the definition mean what they should. The theorems by computation are passed on from their files. Assumes nothing.
 pub use Rattle.circuit.proofs.Starred.{starred}
 pub use Rattle.circuit.proofs.Examples.{examples, lookups, numbers}

@@ -122,7 +122,8 @@ abbrev pub Computes : List Example → Type 0
 Computes xs = map (λ x. outcome (x .lent)) xs ≡ map (λ x. x .expected) xs
 
 pub examples : Computes unstarred × Computes walks × Computes checks × Computes sizes
-unfolding outcome conclusion tooBig misshapen tooShort after renumber codes walkAll walked start store flipped walk look imageIn entryImage throughInputs settle settleOn settleAs already nextCode firstCode folded codeOf orderedOf imagesIn
+unfolding outcome conclusion tooBig misshapen tooShort after renumber codes walkAll walked start store flipped walk look imageIn entryImage
+    throughInputs settle settleOn settleAs already nextCode firstCode folded codeOf orderedOf imagesIn
 examples = (refl, refl, refl, refl)
 
 -- a code over 2V + 1, or past the map, or of a variable whose entry is the word for no image, has no image; an odd code flips the entry's low bit
@@ -135,9 +136,11 @@ lookups = (refl, refl, refl, refl, refl, refl)
 -- document 01's numbers, and the literal beside each
 pub numbers :
     (map refusalNumber
-    (TooBig ∷ Misshapen ∷ Short ∷ Over (literal 9) ∷ Again (literal 9) ∷ StateAgain (literal 9) ∷ Undefined (literal 9) ∷ Cycle (literal 9) ∷ Deep (literal 9) ∷ [])
+    (TooBig ∷ Misshapen ∷ Short ∷ Over (literal 9) ∷ Again (literal 9) ∷ StateAgain (literal 9) ∷ Undefined (literal 9) ∷ Cycle (literal 9) ∷ Deep
+    (literal 9) ∷ [])
     ≡ (1 ∷ 2 ∷ 3 ∷ 4 ∷ 5 ∷ 6 ∷ 7 ∷ 8 ∷ 9 ∷ []))
     × (map (λ r. refusalLiteral r .0)
-    (TooBig ∷ Misshapen ∷ Short ∷ Over (literal 9) ∷ Again (literal 9) ∷ StateAgain (literal 9) ∷ Undefined (literal 9) ∷ Cycle (literal 9) ∷ Deep (literal 9) ∷ [])
+    (TooBig ∷ Misshapen ∷ Short ∷ Over (literal 9) ∷ Again (literal 9) ∷ StateAgain (literal 9) ∷ Undefined (literal 9) ∷ Cycle (literal 9) ∷ Deep
+    (literal 9) ∷ [])
     ≡ (0 ∷ 0 ∷ 0 ∷ 9 ∷ 9 ∷ 9 ∷ 9 ∷ 9 ∷ 9 ∷ []))
 numbers = (refl, refl)

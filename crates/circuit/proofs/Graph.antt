@@ -72,7 +72,8 @@ step-of G d P g h p q e (toFirst g′ k e₁ e₂) =
 step-of G d P g h p q e (toSecond g′ k e₁ e₂) =
     subst P e₂ (subst (λ (x : Gate). P (var (x .second))) (one-gate G d g g′ h k (e ∙ sym e₁)) q)
 
-pub Grounded-gate : (G : Graph) → DefinedOnce G → (g : Gate) → In g (G .gates) → Grounded G (var (g .first)) → Grounded G (var (g .second)) → Grounded G (outVar g)
+pub Grounded-gate : (G : Graph) → DefinedOnce G → (g : Gate) → In g (G .gates) → Grounded G (var (g .first)) → Grounded G (var (g .second))
+    → Grounded G (outVar g)
 Grounded-gate G d g h p q = record { known = known; noLoop = noLoop }
   where
     known : (u : ℕ) → Reach G (outVar g) u → In u (defined G)

@@ -99,7 +99,8 @@ abbrev justiceFirst : Circuit → List ℕ
 justiceFirst C =
     let before = getD (C .counts) 0 0 + getD (C .counts) 1 0 + getD (C .counts) 2 0 in
     let fairness = getD (C .counts) 3 0 in
-    cond (C .trim) [] (gateOutputs C) ++ (C .nexts ++ (take before (C .roots) ++ (drop (before + fairness) (C .roots) ++ take fairness (drop before (C .roots)))))
+    cond (C .trim) [] (gateOutputs C) ++ (C .nexts
+    ++ (take before (C .roots) ++ (drop (before + fairness) (C .roots) ++ take fairness (drop before (C .roots)))))
 
 abbrev renumberJusticeFirst : Lent → Out
 renumberJusticeFirst l = walkAll (net (circuitOf l)) (justiceFirst (circuitOf l)) (start (circuitOf l .top) (graph (circuitOf l) .sources))
@@ -152,5 +153,6 @@ pub improvements :
     × ((conclusion fairnessAndJustice ≡ done (0 ∷ 4 ∷ 2 ∷ []) (pair 1 1 ∷ pair 0 0 ∷ []))
     × (renumberJusticeFirst fairnessAndJustice ≡ done (0 ∷ 2 ∷ 4 ∷ []) (pair 0 0 ∷ pair 1 1 ∷ [])))
     × ((conclusion unused ≡ done (0 ∷ 2 ∷ 4 ∷ 0 ∷ []) (pair 3 2 ∷ [])) × (dropsUnused unused (conclusion unused) ≡ done (0 ∷ 2 ∷ 4 ∷ 0 ∷ []) []))
-unfolding conclusion tooBig misshapen tooShort renumber codes walkAll walked start store flipped walk look imageIn entryImage throughInputs settle settleOn settleAs already nextCode firstCode folded codeOf imagesIn
+unfolding conclusion tooBig misshapen tooShort renumber codes walkAll walked start store flipped walk look imageIn entryImage throughInputs settle
+    settleOn settleAs already nextCode firstCode folded codeOf imagesIn
 improvements = ((refl, refl), (refl, refl), (refl, refl), (refl, refl), (refl, refl))

@@ -63,7 +63,8 @@ pub record Inv (N : Net) (top : ℕ) (w : Work) : Type 0 where
   pub low : (v : ℕ) → entry (w .images) v ≢ noImage → entry (w .images) v < nextCode (sourceCount N) (w .made)
   -- what has an image reaches only what is defined and no cycle, and has its image's bit
   pub grounded : (v : ℕ) → entry (w .images) v ≢ noImage → Grounded (N .graph) v
-  pub reads : (given : ℕ → Bool) (v : ℕ) → entry (w .images) v ≢ noImage → Reads (N .graph) given (2 * v) (val (sourceCount N) given (w .made) (entry (w .images) v))
+  pub reads : (given : ℕ → Bool) (v : ℕ) → entry (w .images) v ≢ noImage
+      → Reads (N .graph) given (2 * v) (val (sourceCount N) given (w .made) (entry (w .images) v))
   -- the gates made stand in order, and were each made because nothing stood for the pair already
   pub order : InOrder (sourceCount N) (w .made)
   pub fresh : Fresh N (w .made)
@@ -133,7 +134,15 @@ module _ (N : Net) (top : ℕ) (once : DefinedOnce (N .graph)) (sized : Sized N 
     new-mapped : flipped t (g .output) ≢ noImage
     unfolding nextCode firstCode
     new-mapped e =
-        omega (arith, flipped-below t (g .output) (sourceCount N) made′ (pl .below), sized .few, pl .oneMore, i .few, settled-room m (N .graph .gates) g isGate open′)
+        omega (
+          arith,
+          flipped-below t (g .output) (sourceCount N) made′ (pl .below),
+          sized .few,
+          pl .oneMore,
+          i .few,
+          settled-room m (N .graph .gates)
+              g isGate open′,
+        )
 
     by-place : (P : ℕ → ℕ → Type 0) → P (outVar g) (flipped t (g .output)) → ((v : ℕ) → v ≢ outVar g → P v (entry m v)) → (v : ℕ) → P v (entry m′ v)
     by-place P new old = store-all P m (g .output) t (omega (arith, i .size, sized .outputs g isGate)) new old
@@ -321,7 +330,8 @@ module _ (N : Net) (top : ℕ) (once : DefinedOnce (N .graph)) (sized : Sized N 
     gate-reads given =
         let x : Bool = bit given (codeIn (w .images) (g .first)) in
         let y : Bool = bit given (codeIn (w .images) (g .second)) in
-        let e : flipIf (isOdd (g .output)) (bit given (largerIn (w .images) g) && bit given (smallerIn (w .images) g)) ≡ like (2 * outVar g) (g .output) (x && y)
+        let e : flipIf (isOdd (g .output)) (bit given (largerIn (w .images) g) && bit given (smallerIn (w .images) g)) ≡ like (2 * outVar g)
+        (g .output) (x && y)
         = rw (odd-false (2 * outVar g) (omega arith))
         (ap (flipIf (isOdd (g .output))) (sorted (bit given) (codeIn (w .images) (g .first)) (codeIn (w .images) (g .second)))) in
         byGate g x y isGate (half-double (outVar g)) (lit-reads N top w i given (g .first) p) (lit-reads N top w i given (g .second) q) e
@@ -337,11 +347,19 @@ module _ (N : Net) (top : ℕ) (once : DefinedOnce (N .graph)) (sized : Sized N 
         → Settled (settleAs N w (g .output) (largerIn (w .images) g) (smallerIn (w .images) g) o)
     unfolding settleAs
     by-already none e (isNew f n) =
-        let pl = placed-new N (w .made) _ _ (omega arith) larger-below (i .order) (i .fresh) e f in
-        (placed-inv _ _ pl gate-grounded (p, q) gate-reads, placed-grown _ _ pl gate-grounded (p, q) gate-reads, placed-here _ _ pl gate-grounded (p, q) gate-reads)
+        let pl = placed-new N (w .made) _ _ (omega arith) larger-below (i .order) (i .fresh) e f in (
+          placed-inv _ _ pl gate-grounded (p, q) gate-reads,
+          placed-grown _ _ pl gate-grounded (p, q) gate-reads,
+          placed-here _ _ pl gate-grounded
+              (p, q) gate-reads,
+        )
     by-already (some t) e a =
-        let pl = placed-old N (w .made) _ _ (omega arith) larger-below (i .order) (i .fresh) t a in
-        (placed-inv _ _ pl gate-grounded (p, q) gate-reads, placed-grown _ _ pl gate-grounded (p, q) gate-reads, placed-here _ _ pl gate-grounded (p, q) gate-reads)
+        let pl = placed-old N (w .made) _ _ (omega arith) larger-below (i .order) (i .fresh) t a in (
+          placed-inv _ _ pl gate-grounded (p, q) gate-reads,
+          placed-grown _ _ pl gate-grounded (p, q) gate-reads,
+          placed-here _ _ pl gate-grounded
+              (p, q) gate-reads,
+        )
 
     pub settle-ok : Settled (settle N w g)
     unfolding settle settleOn

@@ -86,9 +86,13 @@ module _ (l : Lent) where
     after-success w d =
         record {
           map = onto-keeps (w .images) (l .map) (mapWords C) (d .inv .size) (room .map);
-          nexts = onto-keeps (imagesIn (w .images) (C .nexts)) (l .nextImages) (length (C .states)) (images-length w (C .nexts) ∙ sym (agrees l (f .two) .latches)) (room .nexts);
+          nexts =
+              onto-keeps (imagesIn (w .images) (C .nexts)) (l .nextImages) (length (C .states))
+              (images-length w (C .nexts) ∙ sym (agrees l (f .two) .latches)) (room .nexts);
           roots = onto-keeps (imagesIn (w .images) (C .roots)) (l .rootImages) (length (C .roots)) (images-length w (C .roots)) (room .roots);
-          gates = onto-keeps (pairWords (w .made) ++ zeros (2 * (length (C .gates) - length (w .made)))) (l .gatesOut) (2 * length (C .gates)) (gates-length w d) (room .gates);
+          gates =
+              onto-keeps (pairWords (w .made) ++ zeros (2 * (length (C .gates) - length (w .made)))) (l .gatesOut) (2 * length (C .gates))
+              (gates-length w d) (room .gates);
           scratch = zeros-keep (scratchWords C) (l .scratch) (room .scratch);
         }
 

@@ -29,3 +29,6 @@ pub mod Map
 pub mod Words
 pub mod Lists
 pub mod Tests
+pub mod Room
+pub mod Checker
+pub mod Again

@@ -160,7 +160,9 @@ first-gate b c (g ∷ gs) ys k = here (λ f. first-gate b c gs ys f) (first-of b
         })
     later f (inr a) = inr (all f gs (a .0), a .1)
 
-    here : (FirstOver b (gateCodes gs ++ ys) c → AtGate b c gs ⊎ (GatesWithin b gs × FirstOver b ys c)) → FirstOver b (g .output ∷ g .first ∷ g .second ∷ []) c ⊎ (AllWithin b (g .output ∷ g .first ∷ g .second ∷ []) × FirstOver b (gateCodes gs ++ ys) c)
+    here : (FirstOver b (gateCodes gs ++ ys) c → AtGate b c gs ⊎ (GatesWithin b gs × FirstOver b ys c))
+        → FirstOver b (g .output ∷ g .first ∷ g .second ∷ []) c
+        ⊎ (AllWithin b (g .output ∷ g .first ∷ g .second ∷ []) × FirstOver b (gateCodes gs ++ ys) c)
         → AtGate b c (g ∷ gs) ⊎ (GatesWithin b (g ∷ gs) × FirstOver b ys c)
     here rec (inl f) = inl (record { before = []; after = gs; gate = g; splits = refl; within = λ g′ h. absurd h; first = f })
     here rec (inr f) = later (f .0) (rec (f .1))

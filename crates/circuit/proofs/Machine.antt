@@ -88,18 +88,22 @@ look-follows N fs w c (enter g) e = go (ltb (length fs) (stackRoom N)) (leTest (
     go true (atMost h) =
         let room : ℕ = stackRoom N - suc (length fs) in
         let more : suc room ≡ stackRoom N - length fs = omega arith in
-        ap (λ (o : Option Gate). resume N fs (andThen (walk N room (pathOf fs ++ (c ∷ [])) w (g .first)) (λ w′. restWith N room (pathOf fs ++ (c ∷ [])) c w′ false o)))
+        ap (λ (o : Option Gate). resume N fs (andThen (walk N room (pathOf fs ++ (c ∷ [])) w (g .first))
+        (λ w′. restWith N room (pathOf fs ++ (c ∷ [])) c w′ false o)))
         (enters N (pathOf fs) w c g e)
         ∙ ap (resume N fs) (walk-at N (suc room) (pathOf fs) w c (enter g) e)
         ∙ ap (λ (k : ℕ). resume N fs (walk N k (pathOf fs) w c)) more
     go false (above h) =
         let full : 0 ≡ stackRoom N - length fs = omega arith in
-        resume-stopped N fs (Deep (literal c)) ∙ ap (resume N fs) (walk-at N 0 (pathOf fs) w c (enter g) e) ∙ ap (λ (k : ℕ). resume N fs (walk N k (pathOf fs) w c)) full
+        resume-stopped N fs (Deep (literal c)) ∙ ap (resume N fs) (walk-at N 0 (pathOf fs) w c (enter g) e)
+        ∙ ap (λ (k : ℕ). resume N fs (walk N k (pathOf fs) w c)) full
 
 back-follows : (N : Net) (c : ℕ) (fs : List Frame) (w : Work) (b : Bool) (o : Option Gate) → gateFor (N .graph .gates) (var c) ≡ o
     → Follows N (comesToAt N (record { lit = c; onSecond = b } ∷ fs) back w) (stepBack N c fs w b o)
 unfolding stepBack resume
-back-follows N c fs w b none e = resume-stopped N fs (Undefined (literal c)) ∙ ap (λ (o : Option Gate). resume N fs (restWith N (stackRoom N - suc (length fs)) (pathOf fs ++ (c ∷ [])) c w b o)) (sym e)
+back-follows N c fs w b none e =
+    resume-stopped N fs (Undefined (literal c))
+    ∙ ap (λ (o : Option Gate). resume N fs (restWith N (stackRoom N - suc (length fs)) (pathOf fs ++ (c ∷ [])) c w b o)) (sym e)
 back-follows N c fs w false (some g) e =
     let room : ℕ = stackRoom N - suc (length fs) in
     let path : List ℕ = pathOf fs ++ (c ∷ []) in
@@ -163,7 +167,8 @@ atWeight back = 0
 
 unfoldable pub weight : Net → Machine → ℕ
 weight N m =
-    4 * (length (N .graph .gates) - settled (m .work .images) (N .graph .gates)) + 3 * (stackRoom N - length (m .frames)) + firsts (m .frames) + atWeight (m .at)
+    4 * (length (N .graph .gates) - settled (m .work .images) (N .graph .gates)) + 3 * (stackRoom N - length (m .frames)) + firsts (m .frames)
+    + atWeight (m .at)
 
 -- the step that a frame's input is
 input-step : (N : Net) (w : Work) (f : Frame) (c : ℕ) → FrameOk N w f c → Step (N .graph) (var (f .lit)) (var c)
@@ -174,7 +179,8 @@ input-step N w f c k = go (f .onSecond) (k .input)
     go true e = toSecond (k .g) (k .isGate) (k .names) (ap var (sym (e .0)))
 
 -- when a fine variable below the frames gets its image, the frames stay open
-stack-grown : (N : Net) (w w′ : Work) (u : ℕ) → Grounded (N .graph) u → Grown (N .graph) w w′ u → (fs : List Frame) (c : ℕ) → Reach (N .graph) (var c) u → Stack N w fs c → Stack N w′ fs c
+stack-grown : (N : Net) (w w′ : Work) (u : ℕ) → Grounded (N .graph) u → Grown (N .graph) w w′ u → (fs : List Frame) (c : ℕ)
+    → Reach (N .graph) (var c) u → Stack N w fs c → Stack N w′ fs c
 stack-grown N w w′ u f r [] c p s = tt
 stack-grown N w w′ u f r (fr ∷ fs) c p s = (
   record { g = s .0 .g; isGate = s .0 .isGate; names = s .0 .names; isOpen = isOpen; input = input (fr .onSecond) (s .0 .input) },
@@ -197,7 +203,8 @@ stack-grown N w w′ u f r (fr ∷ fs) c p s = (
     input false e = e
     input true e = (e .0, λ k. e .1 (sym (r .keeps (var (s .0 .g .first)) (e .1)) ∙ k))
 
-gateFor-is : (N : Net) → DefinedOnce (N .graph) → (g : Gate) (v : ℕ) → In g (N .graph .gates) → outVar g ≡ v → (g′ : Gate) → gateFor (N .graph .gates) v ≡ some g′ → g ≡ g′
+gateFor-is : (N : Net) → DefinedOnce (N .graph) → (g : Gate) (v : ℕ) → In g (N .graph .gates) → outVar g ≡ v → (g′ : Gate)
+    → gateFor (N .graph .gates) v ≡ some g′ → g ≡ g′
 gateFor-is N once g v h e g′ k = go (gateFor (N .graph .gates) v) (gateFound (N .graph .gates) v) k
   where
     go : (o : Option Gate) → GateFound (N .graph .gates) v o → o ≡ some g′ → g ≡ g′
@@ -267,7 +274,8 @@ module _ (N : Net) (top : ℕ) (once : DefinedOnce (N .graph)) (sized : Sized N 
         = settle-ok N top once sized w i (k .g) (k .isGate) isOpen′ (e .1) (subst (λ (x : ℕ). entry (w .images) (var x) ≢ noImage) (e .0) n) in
         let more : settled (w .images) (N .graph .gates) < settled (settle N w (k .g) .images) (N .graph .gates)
         = settled-more (w .images) (settle N w (k .g) .images) (N .graph .gates) (λ v m z. m (sym (st .1 .keeps v m) ∙ z)) (k .g) (k .isGate) isOpen′ (st .2) in
-        subst (λ (x : Gate). Goes (record { frames = record { lit = f .lit; onSecond = true } ∷ fs; at = back; work = w }) (goes (record { frames = fs; at = back; work = settle N w x }))) q (
+        subst (λ (x : Gate). Goes (record { frames = record { lit = f .lit; onSecond = true } ∷ fs; at = back; work = w })
+        (goes (record { frames = fs; at = back; work = settle N w x }))) q (
           record {
             inv = st .0;
             short = omega arith;
@@ -280,7 +288,8 @@ module _ (N : Net) (top : ℕ) (once : DefinedOnce (N .graph)) (sized : Sized N 
           omega (arith, more, settled-le (settle N w (k .g) .images) (N .graph .gates)),
         )
 
-  at-runs : (fs : List Frame) (a : At) (w : Work) → Inv N top w → length fs ≤ stackRoom N → AtOk N w fs a → Goes (record { frames = fs; at = a; work = w }) (stepAt N fs a w)
+  at-runs : (fs : List Frame) (a : At) (w : Work) → Inv N top w → length fs ≤ stackRoom N → AtOk N w fs a
+      → Goes (record { frames = fs; at = a; work = w }) (stepAt N fs a w)
   unfolding stepAt
   at-runs fs (transfer c) w i h s = look-runs fs w c i h s (look N (pathOf fs) w c) (looking N (pathOf fs) w c)
   at-runs [] back w i h s = tt

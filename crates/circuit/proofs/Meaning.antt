@@ -64,7 +64,9 @@ like-self c x = flipIf-twice (isOdd c) x
 
 like-negated : (c : ℕ) (x : Bool) → like (negated c) c x ≡ not x
 unfolding like flipIf isOdd
-like-negated c x = ap (λ (b : Bool). flipIf b (flipIf (isOdd c) x)) (odd-flipped c 1) ∙ flipIf-flipIf true (isOdd c) (flipIf (isOdd c) x) ∙ ap not (flipIf-twice (isOdd c) x)
+like-negated c x =
+    ap (λ (b : Bool). flipIf b (flipIf (isOdd c) x)) (odd-flipped c 1) ∙ flipIf-flipIf true (isOdd c) (flipIf (isOdd c) x)
+    ∙ ap not (flipIf-twice (isOdd c) x)
 
 -- the literal c has the bit b, by its variable
 pub data Reads (G : Graph) (given : ℕ → Bool) : ℕ → Bool → Type 0 where

@@ -139,7 +139,8 @@ nth-here path c = getD-append-seam path c [] 0
 nth-in : (path : List ℕ) (c i : ℕ) → i < suc (length path) → In (nth path c i) (path ++ (c ∷ []))
 nth-in path c i h = In-getD (path ++ (c ∷ [])) i 0 (omega (arith, length-append path (c ∷ [])))
 
-still-open⁺ : (N : Net) (top : ℕ) (w w′ : Work) (u v : ℕ) → Inv N top w′ → Grown (N .graph) w w′ v → Plus (N .graph) u v → entry (w .images) u ≡ noImage → entry (w′ .images) u ≡ noImage
+still-open⁺ : (N : Net) (top : ℕ) (w w′ : Work) (u v : ℕ) → Inv N top w′ → Grown (N .graph) w w′ v → Plus (N .graph) u v
+    → entry (w .images) u ≡ noImage → entry (w′ .images) u ≡ noImage
 still-open⁺ N top w w′ u v i r s e = go (eqb (entry (w′ .images) u) noImage) (sameTest (entry (w′ .images) u) noImage)
   where
     go : (b : Bool) → Same (entry (w′ .images) u) noImage b → entry (w′ .images) u ≡ noImage
@@ -208,7 +209,14 @@ module _ (N : Net) (top : ℕ) (once : DefinedOnce (N .graph)) (sized : Sized N 
     seen-length : length (map var seen) ≡ suc (length (N .graph .gates))
     unfolding seen
     seen-length =
-        omega (arith, length-map seen var, length-take (suc (length (N .graph .gates))) (path ++ (c ∷ [])), length-append path (c ∷ []), length-pos g (N .graph .gates) isGate)
+        omega (
+          arith,
+          length-map seen var,
+          length-take (suc (length (N .graph .gates))) (path ++ (c ∷ [])),
+          length-append path (c ∷ []),
+          length-pos g
+              (N .graph .gates) isGate,
+        )
 
     seen-gate : (p : ℕ) → In p path ⊎ In p (c ∷ []) → In (var p) (map outVar (N .graph .gates))
     seen-gate p (inl k) = o .areGates p k
@@ -219,7 +227,8 @@ module _ (N : Net) (top : ℕ) (once : DefinedOnce (N .graph)) (sized : Sized N 
     unfolding seen
     seen-gates v h =
         let r = In-unmap var v seen h in
-        subst (λ (u : ℕ). In u (map outVar (N .graph .gates))) (r .2) (seen-gate (r .0) (In-cases (r .0) path (c ∷ []) (In-take (r .0) (suc (length (N .graph .gates))) (path ++ (c ∷ [])) (r .1))))
+        subst (λ (u : ℕ). In u (map outVar (N .graph .gates))) (r .2)
+        (seen-gate (r .0) (In-cases (r .0) path (c ∷ []) (In-take (r .0) (suc (length (N .graph .gates))) (path ++ (c ∷ [])) (r .1))))
 
     seen-var : (i : ℕ) → i < suc (length (N .graph .gates)) → getD (map var seen) i 0 ≡ var (nth path c i)
     unfolding seen
@@ -257,7 +266,8 @@ module _ (N : Net) (top : ℕ) (once : DefinedOnce (N .graph)) (sized : Sized N 
   Nine path w c (stopped r) = (entry (w .images) (var c) ≡ noImage → Orbit N w path c) → refusalNumber r ≢ 9
 
   answer-nine : (path : List ℕ) (w : Work) (c : ℕ) (go : Gate → Out)
-      → ((g : Gate) → entry (w .images) (var c) ≡ noImage → In g (N .graph .gates) → outVar g ≡ var c → (0 < length path → getD path (length path / 2) 0 ≢ c) → Nine path w c (go g))
+      → ((g : Gate) → entry (w .images) (var c) ≡ noImage → In g (N .graph .gates) → outVar g ≡ var c
+      → (0 < length path → getD path (length path / 2) 0 ≢ c) → Nine path w c (go g))
       → (l : Look) → Looking N path w c l → Nine path w c (answer l w go)
   answer-nine path w c go f l (hasImage n) = tt
   answer-nine path w c go f l (onPath h) = λ o e. omega arith
@@ -278,7 +288,8 @@ module _ (N : Net) (top : ℕ) (once : DefinedOnce (N .graph)) (sized : Sized N 
 
     pluses : Orbit N w path c → (p : ℕ) → In p path ⊎ In p (c ∷ []) → Plus (N .graph) (var p) (var (g .first))
     pluses o p (inl k) = Plus-step (o .reaches p k) to-first
-    pluses o p (inr (inl k)) = record { next = var (g .first); step = subst⁻¹ (λ (v : ℕ). Step (N .graph) (var v) (var (g .first))) k to-first; rest = here refl }
+    pluses o p (inr (inl k)) =
+        record { next = var (g .first); step = subst⁻¹ (λ (v : ℕ). Step (N .graph) (var v) (var (g .first))) k to-first; rest = here refl }
     pluses o p (inr (inr k)) = absurd k
 
     second-nine : (w₁ : Work) → Inv N top w₁ → Grown (N .graph) w w₁ (var (g .first)) → entry (w₁ .images) (var (g .first)) ≢ noImage
@@ -309,7 +320,8 @@ module _ (N : Net) (top : ℕ) (once : DefinedOnce (N .graph)) (sized : Sized N 
   walk-nine : (room : ℕ) (path : List ℕ) (w : Work) (c : ℕ) → room + length path ≡ stackRoom N → Inv N top w → Nine path w c (walk N room path w c)
   unfolding walk
   walk-nine zero path w c e i =
-      answer-nine path w c (λ g. stopped (Deep (literal c))) (λ g op h k q o z. orbit-full w path c (o op) (omega arith) g h k q) (look N path w c) (looking N path w c)
+      answer-nine path w c (λ g. stopped (Deep (literal c))) (λ g op h k q o z. orbit-full w path c (o op) (omega arith) g h k q) (look N path w c)
+      (looking N path w c)
   walk-nine (suc room) path w c e i =
       answer-nine path w c (λ g. throughInputs N (λ w′ c′. walk N room (path ++ (c ∷ [])) w′ c′) g w)
       (λ g op h k q.

@@ -106,7 +106,8 @@ module _ (O : Ordered) where
   ordered-once =
       let p : map var (D .sources) ≡ upFrom 1 n = ap (λ (l : List ℕ). map var l) ordered-sources ∙ countFrom-var 1 n in
       let q : map outVar (D .gates) ≡ upFrom (1 + n) (length (O .gates))
-      = ap (λ (l : List Gate). map outVar l) ordered-gates ∙ ap (λ (t : ℕ). map outVar (gatesFrom t (O .gates))) (omega arith) ∙ gatesFrom-var (1 + n) (O .gates) in
+      = ap (λ (l : List Gate). map outVar l) ordered-gates ∙ ap (λ (t : ℕ). map outVar (gatesFrom t (O .gates))) (omega arith)
+      ∙ gatesFrom-var (1 + n) (O .gates) in
       subst⁻¹ (λ (l : List ℕ). Distinct (0 ∷ l)) (ap₂ (λ (a b : List ℕ). a ++ b) p q ∙ upFrom-append 1 n (length (O .gates)))
       (upFrom-distinct 0 (suc (n + length (O .gates))))
 

@@ -57,7 +57,8 @@ module _ (l : Lent) where
   pub within : tooBig C ≡ false → Within C
   unfolding tooBig
   within e =
-      let a = or-false (ltb limit (C .top) || ltb limit (length (C .inputs)) || ltb limit (length (C .states)) || ltb limit (length (C .gates))) (ltb limit (length (C .roots))) e in
+      let a = or-false (ltb limit (C .top) || ltb limit (length (C .inputs)) || ltb limit (length (C .states)) || ltb limit (length (C .gates)))
+      (ltb limit (length (C .roots))) e in
       let b = or-false (ltb limit (C .top) || ltb limit (length (C .inputs)) || ltb limit (length (C .states))) (ltb limit (length (C .gates))) (a .0) in
       let c = or-false (ltb limit (C .top) || ltb limit (length (C .inputs))) (ltb limit (length (C .states))) (b .0) in
       let d = or-false (ltb limit (C .top)) (ltb limit (length (C .inputs))) (c .0) in
@@ -72,7 +73,8 @@ module _ (l : Lent) where
   pub agrees : misshapen l ≡ false → Agrees l
   unfolding misshapen
   agrees e =
-      let a = or-false (not (eqb (total (C .counts)) (length (C .roots))) || not (eqb (length (C .states)) (length (C .nexts)))) (not (eqb (length (l .gates) % 3) 0)) e in
+      let a = or-false (not (eqb (total (C .counts)) (length (C .roots))) || not (eqb (length (C .states)) (length (C .nexts))))
+      (not (eqb (length (l .gates) % 3) 0)) e in
       let b = or-false (not (eqb (total (C .counts)) (length (C .roots)))) (not (eqb (length (C .states)) (length (C .nexts)))) (a .0) in
       record {
         roots = same-of (total (C .counts)) (length (C .roots)) (b .0);
@@ -83,9 +85,12 @@ module _ (l : Lent) where
   pub roomy : tooShort l C ≡ false → Roomy l C
   unfolding tooShort
   roomy e =
-      let a = or-false (ltb (length (l .map)) (mapWords C) || ltb (length (l .nextImages)) (length (C .states)) || ltb (length (l .rootImages)) (length (C .roots)) || ltb (length (l .gatesOut)) (2 * length (C .gates))) (ltb (length (l .scratch)) (scratchWords C)) e in
-      let b = or-false (ltb (length (l .map)) (mapWords C) || ltb (length (l .nextImages)) (length (C .states)) || ltb (length (l .rootImages)) (length (C .roots))) (ltb (length (l .gatesOut)) (2 * length (C .gates))) (a .0) in
-      let c = or-false (ltb (length (l .map)) (mapWords C) || ltb (length (l .nextImages)) (length (C .states))) (ltb (length (l .rootImages)) (length (C .roots))) (b .0) in
+      let a = or-false (ltb (length (l .map)) (mapWords C) || ltb (length (l .nextImages)) (length (C .states)) || ltb (length (l .rootImages))
+      (length (C .roots)) || ltb (length (l .gatesOut)) (2 * length (C .gates))) (ltb (length (l .scratch)) (scratchWords C)) e in
+      let b = or-false (ltb (length (l .map)) (mapWords C) || ltb (length (l .nextImages)) (length (C .states)) || ltb (length (l .rootImages))
+      (length (C .roots))) (ltb (length (l .gatesOut)) (2 * length (C .gates))) (a .0) in
+      let c = or-false (ltb (length (l .map)) (mapWords C) || ltb (length (l .nextImages)) (length (C .states)))
+      (ltb (length (l .rootImages)) (length (C .roots))) (b .0) in
       let d = or-false (ltb (length (l .map)) (mapWords C)) (ltb (length (l .nextImages)) (length (C .states))) (c .0) in
       record {
         map = ltb-false (length (l .map)) (mapWords C) (d .0);

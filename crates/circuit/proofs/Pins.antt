@@ -122,7 +122,8 @@ order =
     -- input 6, latches (4,2), (2,4): inputs first, then latch states in their order
     ∷ success (lend plain 3 (6 ∷ []) (4 ∷ 2 ∷ []) (2 ∷ 4 ∷ []) [] (outputs 0) []) 0 3 (0 ∷ 6 ∷ 4 ∷ 2 ∷ []) (6 ∷ 4 ∷ []) [] []
     -- inputs 2, 4, one root of each kind, trim: outputs, bad states, constraints, fairness, justice, in this order
-    ∷ success (lend trimming 7 (2 ∷ 4 ∷ []) [] [] (6 ∷ 2 ∷ 4 ∷ 8 ∷ 2 ∷ 5 ∷ 10 ∷ 3 ∷ 4 ∷ 12 ∷ 3 ∷ 5 ∷ 14 ∷ 2 ∷ 3 ∷ []) (1 ∷ 1 ∷ 1 ∷ 1 ∷ 1 ∷ []) (14 ∷ 12 ∷ 10 ∷ 8 ∷ 6 ∷ []))
+    ∷ success (lend trimming 7 (2 ∷ 4 ∷ []) [] [] (6 ∷ 2 ∷ 4 ∷ 8 ∷ 2 ∷ 5 ∷ 10 ∷ 3 ∷ 4 ∷ 12 ∷ 3 ∷ 5 ∷ 14 ∷ 2 ∷ 3 ∷ []) (1 ∷ 1 ∷ 1 ∷ 1 ∷ 1 ∷ [])
+    (14 ∷ 12 ∷ 10 ∷ 8 ∷ 6 ∷ []))
     5 7 (0 ∷ 2 ∷ 4 ∷ 14 ∷ 12 ∷ 10 ∷ 8 ∷ 6 ∷ []) [] (3 ∷ 2 ∷ 5 ∷ 3 ∷ 4 ∷ 3 ∷ 5 ∷ 2 ∷ 4 ∷ 2 ∷ []) (6 ∷ 8 ∷ 10 ∷ 12 ∷ 14 ∷ [])
     -- each of the five counts is summed: one root, counted by each kind alone; and counted twice
     ∷ success (lend plain 0 [] [] [] [] (1 ∷ 0 ∷ 0 ∷ 0 ∷ 0 ∷ []) (1 ∷ [])) 0 0 (0 ∷ []) [] [] (1 ∷ [])
@@ -171,7 +172,8 @@ rows =
     -- a literal and its negation
     ∷ rowLeaves 2 3 3 2 ∷ rowLeaves 3 2 3 2
     -- input 2, gates 4(2,0), 6(2,1), folding: no gate is made, and all four words of the gates are 0
-    ∷ gives (whole folding 3 (2 ∷ []) [] [] (4 ∷ 2 ∷ 0 ∷ 6 ∷ 2 ∷ 1 ∷ []) (outputs 2) (4 ∷ 6 ∷ [])) 0 1 (0 ∷ 2 ∷ 0 ∷ 2 ∷ []) [] (0 ∷ 0 ∷ 0 ∷ 0 ∷ []) (0 ∷ 2 ∷ []) 18
+    ∷ gives (whole folding 3 (2 ∷ []) [] [] (4 ∷ 2 ∷ 0 ∷ 6 ∷ 2 ∷ 1 ∷ []) (outputs 2) (4 ∷ 6 ∷ [])) 0 1 (0 ∷ 2 ∷ 0 ∷ 2 ∷ []) [] (0 ∷ 0 ∷ 0 ∷ 0 ∷ [])
+    (0 ∷ 2 ∷ []) 18
     -- the same gates, trim, no roots: none is reached
     ∷ gives (whole trimming 3 (2 ∷ []) [] [] (4 ∷ 2 ∷ 0 ∷ 6 ∷ 2 ∷ 1 ∷ []) (outputs 0) []) 0 1 (0 ∷ 2 ∷ gone ∷ gone ∷ []) [] (0 ∷ 0 ∷ 0 ∷ 0 ∷ []) [] 18
     ∷ []
@@ -232,7 +234,8 @@ latches-pinned = (refl, refl, refl, refl)
 
 -- what is lent and what comes of it, field by field; flat gates, with none, one or two words left over; pairs of words
 pub fields-pinned :
-    (lentOf (record { top = variable 9; counts = 8 ∷ []; trim = true; hash = false; fold = false }) (1 ∷ []) (2 ∷ []) (3 ∷ []) (4 ∷ []) (5 ∷ []) (6 ∷ []) (7 ∷ []) (8 ∷ []) (9 ∷ []) (10 ∷ [])
+    (lentOf (record { top = variable 9; counts = 8 ∷ []; trim = true; hash = false; fold = false }) (1 ∷ []) (2 ∷ []) (3 ∷ []) (4 ∷ []) (5 ∷ [])
+    (6 ∷ []) (7 ∷ []) (8 ∷ []) (9 ∷ []) (10 ∷ [])
     ≡ record {
       circuit = record { top = variable 9; counts = 8 ∷ []; trim = true; hash = false; fold = false };
       inputs = 1 ∷ [];
@@ -297,7 +300,8 @@ pub ordered-pinned :
     -- three inputs and a latch
     × (given (record { inputs = 3; nexts = 0 ∷ []; gates = []; counts = []; roots = [] }) false false false .inputs ≡ (2 ∷ 4 ∷ 6 ∷ []))
     × (given (record { inputs = 3; nexts = 0 ∷ []; gates = []; counts = []; roots = [] }) false false false .states ≡ (8 ∷ []))
-unfolding outcome conclusion tooBig misshapen tooShort after renumber codes walkAll walked start store flipped walk look imageIn entryImage throughInputs settle settleOn settleAs already nextCode firstCode folded codeOf orderedOf imagesIn held given orderedGraph
+unfolding outcome conclusion tooBig misshapen tooShort after renumber codes walkAll walked start store flipped walk look imageIn entryImage
+    throughInputs settle settleOn settleAs already nextCode firstCode folded codeOf orderedOf imagesIn held given orderedGraph
 ordered-pinned = (refl, refl, refl, refl, refl, refl, refl, refl, refl, refl, refl, refl, refl)
 
 -- ordered over one source: larger codes first and equal ones allowed, each below its gate's code, 4 and then 6; and three lists that are not
@@ -535,5 +539,6 @@ unfolding givenFrom
 givens-pinned given = refl
 
 pub pins : Computes cells × Computes order × Computes settings × Computes rows × Computes again × Computes shared
-unfolding outcome conclusion tooBig misshapen tooShort after renumber codes walkAll walked start store flipped walk look imageIn entryImage throughInputs settle settleOn settleAs already nextCode firstCode folded codeOf orderedOf imagesIn
+unfolding outcome conclusion tooBig misshapen tooShort after renumber codes walkAll walked start store flipped walk look imageIn entryImage
+    throughInputs settle settleOn settleAs already nextCode firstCode folded codeOf orderedOf imagesIn
 pins = (refl, refl, refl, refl, refl, refl)

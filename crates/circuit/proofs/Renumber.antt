@@ -84,7 +84,12 @@ sized C l b =
     bound : (d : ℕ) → In d (C .inputs) ⊎ In d (C .states) → var d ≤ C .top
     bound d (inl h) = omega (arith, b d (In-left d (C .inputs) _ h))
     bound d (inr h) =
-        omega (arith, b d (In-right d (C .inputs) _ (In-right d (gateCodes (C .gates)) _ (In-left d (latchCodes (C .states) (C .nexts)) _ (in-latchCodes (C .states) (C .nexts) (l .latches) d h)))))
+        omega (
+          arith,
+          b d (In-right d (C .inputs) _
+              (In-right d (gateCodes (C .gates)) _ (In-left d (latchCodes (C .states) (C .nexts)) _
+              (in-latchCodes (C .states) (C .nexts) (l .latches) d h)))),
+        )
 
 -- the variables defined, in the order of the checks and in the order of the circuit
 module _ (C : Circuit) where

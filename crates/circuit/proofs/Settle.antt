@@ -87,7 +87,8 @@ beforeIs [] t hi lo = never (λ j h. absurd (omega arith))
 beforeIs (p ∷ ps) t hi lo =
     go (madeBefore ps (t + 2) hi lo) (beforeIs ps (t + 2) hi lo) (eqb (p .larger) hi) (sameTest (p .larger) hi) (eqb (p .smaller) lo) (sameTest (p .smaller) lo)
   where
-    not-here : (p ≢ pair hi lo) → ((j : ℕ) → j < length ps → getD ps j noPair ≢ pair hi lo) → (j : ℕ) → j < length (p ∷ ps) → getD (p ∷ ps) j noPair ≢ pair hi lo
+    not-here : (p ≢ pair hi lo) → ((j : ℕ) → j < length ps → getD ps j noPair ≢ pair hi lo) → (j : ℕ) → j < length (p ∷ ps)
+        → getD (p ∷ ps) j noPair ≢ pair hi lo
     not-here n f zero h = n
     not-here n f (suc j) h = f j (omega arith)
 
@@ -101,7 +102,8 @@ beforeIs (p ∷ ps) t hi lo =
 -- what stands for the pair already, with what it says
 pub data Already (N : Net) (made : List Pair) (hi lo : ℕ) : Option ℕ → Type 0 where
   isFolded : (t : ℕ) → foldedIf (N .fold) hi lo ≡ some t → Already N made hi lo (some t)
-  isMade : (t j : ℕ) → foldedIf (N .fold) hi lo ≡ none → N .hash ≡ true → j < length made → t ≡ firstCode (sourceCount N) + 2 * j → getD made j noPair ≡ pair hi lo
+  isMade : (t j : ℕ) → foldedIf (N .fold) hi lo ≡ none → N .hash ≡ true → j < length made → t ≡ firstCode (sourceCount N) + 2 * j
+      → getD made j noPair ≡ pair hi lo
       → Already N made hi lo (some t)
   isNew : foldedIf (N .fold) hi lo ≡ none → (N .hash ≡ true → (j : ℕ) → j < length made → getD made j noPair ≢ pair hi lo) → Already N made hi lo none
 
@@ -184,7 +186,8 @@ module _ (N : Net) (made : List Pair) (hi lo : ℕ) (ordered : lo ≤ hi) (small
   longer : length made′ ≡ length made + 1
   longer = length-append made (pair hi lo ∷ [])
 
-  order′ : (j : ℕ) → (j < length made) ⊎ (j ≡ length made) → (getD made′ j noPair .smaller ≤ getD made′ j noPair .larger) × (getD made′ j noPair .larger < firstCode n + 2 * j)
+  order′ : (j : ℕ) → (j < length made) ⊎ (j ≡ length made) → (getD made′ j noPair .smaller ≤ getD made′ j noPair .larger)
+      × (getD made′ j noPair .larger < firstCode n + 2 * j)
   unfolding nextCode
   order′ j (inl h) = rw (List·getD-append made (pair hi lo ∷ []) noPair j h) (order j h)
   order′ j (inr e) = rw (e, getD-append-seam made (pair hi lo) [] noPair) (ordered, small)

@@ -56,5 +56,6 @@ pub starred :
     × (tokenNumber (deltaAt (0x07 ∷ []) 0 6) ≡ 17)
     × (tokenNumber (deltaAt (0x80 ∷ []) 0 6) ≡ 15)
     × (tokenNumber (deltaAt (0x80 ∷ 0x80 ∷ 0x80 ∷ 0x80 ∷ 0x80 ∷ 0x80 ∷ 0x80 ∷ 0x80 ∷ []) 0 6) ≡ 16)
-unfolding outcome conclusion tooBig misshapen tooShort after renumber codes walkAll walked start store flipped walk look imageIn entryImage throughInputs settle settleOn settleAs already nextCode firstCode folded codeOf orderedOf imagesIn deltaAt binaryAt goOnAt
+unfolding outcome conclusion tooBig misshapen tooShort after renumber codes walkAll walked start store flipped walk look imageIn entryImage
+    throughInputs settle settleOn settleAs already nextCode firstCode folded codeOf orderedOf imagesIn deltaAt binaryAt goOnAt
 starred = (refl, refl, refl, refl, refl, refl, refl)

@@ -124,7 +124,8 @@ module _ (N : Net) (top : ℕ) (once : DefinedOnce (N .graph)) (sized : Sized N 
 
   start-no-gate : (v : ℕ) → entry (begin .images) v ≢ noImage → (g : Gate) → In g (N .graph .gates) → outVar g ≡ v → ⊥
   start-no-gate =
-      start-all (λ v e. e ≢ noImage → (g : Gate) → In g (N .graph .gates) → outVar g ≡ v → ⊥) (λ v n. absurd (n refl)) (λ n g h k. zero-no-gate (N .graph) once g h k)
+      start-all (λ v e. e ≢ noImage → (g : Gate) → In g (N .graph .gates) → outVar g ≡ v → ⊥) (λ v n. absurd (n refl))
+      (λ n g h k. zero-no-gate (N .graph) once g h k)
       (λ k h n g m e. source-no-gate (N .graph) once (getD sources k 0) g (In-getD sources k 0 h) m e)
 
   -- only the constant and the sources have images
@@ -142,7 +143,8 @@ module _ (N : Net) (top : ℕ) (once : DefinedOnce (N .graph)) (sized : Sized N 
             start-all (λ v e. e ≢ noImage → e < nextCode (sourceCount N) []) (λ v n. absurd (n refl)) (λ n. omega arith)
             (λ k h n. omega (arith, h));
         grounded =
-            start-all (λ v e. e ≢ noImage → Grounded (N .graph) v) (λ v n. absurd (n refl)) (λ n. Grounded-leaf (N .graph) 0 (inl refl) (zero-no-gate (N .graph) once))
+            start-all (λ v e. e ≢ noImage → Grounded (N .graph) v) (λ v n. absurd (n refl))
+            (λ n. Grounded-leaf (N .graph) 0 (inl refl) (zero-no-gate (N .graph) once))
             (λ k h n.
             let d : ℕ = getD sources k 0 in
             let m : In d sources = In-getD sources k 0 h in

@@ -104,10 +104,12 @@ module _ (l : Lent) (w : Work) (e : conclusion l ≡ reached w) where
       let gates : pairsOf (take (2 * length (w .made)) (outcome l .gatesOut)) ≡ w .made
       = ap (λ (o : Outcome). pairsOf (take (2 * length (w .made)) (o .gatesOut))) (success-of l w e)
       ∙ ap pairsOf
-      (take-append-le (2 * length (w .made)) words (drop (length words) (l .gatesOut)) (omega (arith, length-append (pairWords (w .made)) rest, pairs-length (w .made)))
+      (take-append-le (2 * length (w .made)) words (drop (length words) (l .gatesOut))
+      (omega (arith, length-append (pairWords (w .made)) rest, pairs-length (w .made)))
       ∙ take-at (pairWords (w .made)) rest (2 * length (w .made)) (pairs-length (w .made)))
       ∙ pairs-back (w .made) in
-      ap (λ (x : List ℕ). orderedWith C x (pairsOf (take (2 * length (w .made)) (outcome l .gatesOut))) (take (length (l .roots)) (outcome l .rootImages))) nexts
+      ap (λ (x : List ℕ). orderedWith C x (pairsOf (take (2 * length (w .made)) (outcome l .gatesOut)))
+      (take (length (l .roots)) (outcome l .rootImages))) nexts
       ∙ ap (λ (x : List Pair). orderedWith C (imagesIn (w .images) (C .nexts)) x (take (length (l .roots)) (outcome l .rootImages))) gates
       ∙ ap (λ (x : List ℕ). orderedWith C (imagesIn (w .images) (C .nexts)) (w .made) x) roots
 
@@ -256,7 +258,8 @@ module _ (l : Lent) (s : Summary) (e : outcome l .answer ≡ Renumbered s) where
       let top : s .top .0 ≡ sourcesOf (orderedOf (circuitOf l) (from .work)) + length (from .work .made) = ap (λ (x : Summary). x .top .0) (from .sums) in
       (omega (arith, top, code-within l (from .work) (from .ends) c t h), code-word l (from .work) (from .ends) c t h)
 
-  pub twins : circuitOf l .hash ≡ true → (i j : ℕ) → i < j → j < s .made → getD (held l s (outcome l) .gates) i noPair ≢ getD (held l s (outcome l) .gates) j noPair
+  pub twins : circuitOf l .hash ≡ true → (i j : ℕ) → i < j → j < s .made
+      → getD (held l s (outcome l) .gates) i noPair ≢ getD (held l s (outcome l) .gates) j noPair
   unfolding orderedOf
   twins on i j h k =
       subst⁻¹ (λ (O : Ordered). getD (O .gates) i noPair ≢ getD (O .gates) j noPair) (from .holds)

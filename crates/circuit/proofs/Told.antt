@@ -1,5 +1,6 @@
 -- The demands leave nothing open but the numbering: two outcomes of one lending that meet them and give one answer are the same, cell by cell, if after a
--- success the map's cells are the same. For a refusal says what each cell is; and after a success images, words and zeros are read off the map. Assumes nothing.
+-- success the map's cells are the same. For a refusal says what each cell is; and after a success images, words and zeros are read off the map.
+-- Assumes nothing.
 use Prim.Native.Nat.{ℕ, zero, suc, _+_, _*_, _/_, _%_, _<_, _≤_, min, max}
 use mathlib.Core.Path.{_≡_, refl, sym, _∙_, ap, ap₂, subst}
 use mathlib.Core.Logic.{_⊎_, inl, inr}
@@ -65,7 +66,8 @@ module _ (l : Lent) (o o′ : Outcome) (d : Demands l (circuitOf l) o) (d′ : D
       let p = d .lateRefusalsClear r e h in
       let q = d′ .lateRefusalsClear r (sym one ∙ e) h in
       same-outcome o o′ one (same-filled _ _ (l .map) _ _ (p .map) (q .map)) (same-filled _ _ (l .nextImages) _ _ (p .nexts) (q .nexts))
-      (same-filled _ _ (l .rootImages) _ _ (p .roots) (q .roots)) (same-filled _ _ (l .gatesOut) _ _ (p .gates) (q .gates)) (same-filled _ _ (l .scratch) _ _ (p .scratch) (q .scratch))
+      (same-filled _ _ (l .rootImages) _ _ (p .roots) (q .roots)) (same-filled _ _ (l .gatesOut) _ _ (p .gates) (q .gates))
+      (same-filled _ _ (l .scratch) _ _ (p .scratch) (q .scratch))
 
   -- a success: all else is read off the map
   module _ (s : Summary) (e : o .answer ≡ Renumbered s) (same : (v : ℕ) → v ≤ C .top → getD (o .map) v 0 ≡ getD (o′ .map) v 0) where
@@ -111,7 +113,11 @@ module _ (l : Lent) (o o′ : Outcome) (d : Demands l (circuitOf l) o) (d′ : D
       smaller-same = ap₂ min (after-same (g .first) first-low) (after-same (g .second) second-low)
 
       taken-back : (t : ℕ) → Taken l o′ g t → Taken l o g t
-      taken-back t k = (k .0, subst (λ (x : ℕ). Folds x (smallerAfter o g) t) (sym larger-same) (subst (λ (y : ℕ). Folds (largerAfter o′ g) y t) (sym smaller-same) (k .1)))
+      taken-back t k = (
+        k .0,
+        subst (λ (x : ℕ). Folds x (smallerAfter o g) t) (sym larger-same)
+            (subst (λ (y : ℕ). Folds (largerAfter o′ g) y t) (sym smaller-same) (k .1)),
+      )
 
       new-there : IsNew l o′ s g j
       new-there = go (there .gatesRuled g (stays .isGate) (stays .isReached) .became)
@@ -145,7 +151,8 @@ module _ (l : Lent) (o o′ : Outcome) (d : Demands l (circuitOf l) o) (d′ : D
     after-success =
         let p = d .pastKept in
         let q = d′ .pastKept in
-        same-outcome o o′ one (same-kept _ (l .map) _ _ (p .map) (q .map) (λ v h. same v (omega arith))) (same-kept _ (l .nextImages) _ _ (p .nexts) (q .nexts) next-same)
+        same-outcome o o′ one (same-kept _ (l .map) _ _ (p .map) (q .map) (λ v h. same v (omega arith)))
+        (same-kept _ (l .nextImages) _ _ (p .nexts) (q .nexts) next-same)
         (same-kept _ (l .rootImages) _ _ (p .roots) (q .roots) root-same)
         (same-kept _ (l .gatesOut) _ _ (p .gates) (q .gates) (λ i h. word-same i h (lt-or i (2 * s .made)) (parity i)))
         (same-filled _ _ (l .scratch) _ _ (here .fills .scratch) (there .fills .scratch))

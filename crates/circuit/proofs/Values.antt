@@ -143,5 +143,6 @@ val-gate n made order given j h =
     even ∙ ap (λ (i : ℕ). getD (runGates (false ∷ givenFrom given 0 n) made) i false) v
     ∙ run-gate (false ∷ givenFrom given 0 n) made (λ i k. omega (arith, order i k, l)) j h
   where
-    even : bitOf (runGates (false ∷ givenFrom given 0 n) made) (2 * (n + 1) + 2 * j) ≡ getD (runGates (false ∷ givenFrom given 0 n) made) (var (2 * (n + 1) + 2 * j)) false
+    even : bitOf (runGates (false ∷ givenFrom given 0 n) made) (2 * (n + 1) + 2 * j) ≡ getD (runGates (false ∷ givenFrom given 0 n) made)
+        (var (2 * (n + 1) + 2 * j)) false
     even = val-at (runGates (false ∷ givenFrom given 0 n) made) (2 * (n + 1) + 2 * j) (omega arith)

@@ -78,7 +78,8 @@ pub data Looking (N : Net) (path : List ℕ) (w : Work) (c : ℕ) : Look → Typ
 pub looking : (N : Net) (path : List ℕ) (w : Work) (c : ℕ) → Looking N path w c (look N path w c)
 unfolding look
 looking N path w c =
-    go (imageIn (w .images) c) (looked (w .images) c) (isMiddle path c) (middleTest path c) (gateFor (N .graph .gates) (var c)) (gateFound (N .graph .gates) (var c))
+    go (imageIn (w .images) c) (looked (w .images) c) (isMiddle path c) (middleTest path c) (gateFor (N .graph .gates) (var c))
+    (gateFound (N .graph .gates) (var c))
   where
     go : (i : Image) → Looked (entry (w .images) (var c)) c i → (b : Bool) → Mid path c b → (o : Option Gate) → GateFound (N .graph .gates) (var c) o
         → Looking N path w c (lookAt c i b o)

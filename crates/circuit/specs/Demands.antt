@@ -1,5 +1,6 @@
 -- The customer's demands of renumbering, of all that is lent (l, with C the circuit lent) and of an outcome o: the answer, and each written list
--- afterwards. proofs/Demands.antt proves `Demands` of the outcome that the definition gives, and `aig` of whatever the function `renumber` leaves. Every cell is told by what
+-- afterwards. proofs/Demands.antt proves `Demands` of the outcome that the definition gives, and `aig` of whatever the function `renumber` leaves.
+-- Every cell is told by what
 -- it is; the walk's definition is needed only for the order in which new gates are numbered. The words stand in Claims.antt and Graph.antt. Assumes nothing.
 use Prim.Native.Nat.{ℕ, _+_, _*_, _<_, _≤_}
 use mathlib.Core.Path.{_≡_}

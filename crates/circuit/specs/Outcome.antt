@@ -62,6 +62,10 @@ abbrev pub outcomeOf : Answer → List ℕ → List ℕ → List ℕ → List �
 outcomeOf answer map nextImages rootImages gatesOut scratch =
     record { answer = answer; map = map; nextImages = nextImages; rootImages = rootImages; gatesOut = gatesOut; scratch = scratch }
 
+-- what a function leaves when it returns, as a contract writes it down, a field a line
+abbrev pub left : Outcome → Outcome
+left o = o
+
 -- gates from a flat list; one or two words left over are none
 abbrev pub gatesOf : List ℕ → List Gate
 gatesOf [] = []

@@ -1,4 +1,5 @@
--- Any two outcomes that the contract of this crate's public function allows for the same arguments are equal: the answer, and each word of the table. Assumes nothing.
+-- Any two outcomes that the contract of this crate's public function allows for the same arguments are equal: the answer, and each word of the table.
+-- Assumes nothing.
 use mathlib.Core.Path.{_≡_, sym, ap, _∙_}
 use denote.Ref.{now}
 use Rattle.promise.specs.Determined.{DeterminesCells}

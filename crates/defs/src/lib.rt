@@ -76,7 +76,8 @@ fn define_gates(table: &mut [u32], gates: &[u32]) -> Found
 // Marks the constant, the inputs, the gates' outputs and the latch states in turn, and says what check 5 or 6 refuses: of a table of zeros, with a
 // word for each variable.
 pub fn define_all(table: &mut [u32], inputs: &[u32], states: &[u32], gates: &[u32]) -> Check
-    ensures { λ r. ⌜ judged (now (table .exit)) r ≡ defineAll (now (table .entry)) (now (inputs .entry)) (now (states .entry)) (gatesOf (now (gates .entry))) ⌝ }
+    ensures { λ r. ⌜ judged (now (table .exit)) r ≡ defineAll (now (table .entry)) (now (inputs .entry)) (now (states .entry))
+        (gatesOf (now (gates .entry))) ⌝ }
 {
     mark_constant(table);
     let again = define_sources(table, inputs);

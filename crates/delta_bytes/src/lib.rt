@@ -8,7 +8,8 @@ use token::Token;
 // One delta at a place: 0, with the value, low byte first, in the first eight lent bytes and the count of bytes used in the ninth; or a
 // refusal's number, and the lent bytes as they were. Fewer than nine lent bytes is refusal 3, tested first.
 pub fn put_delta(s: &[u8], at: usize, reference: u64, out: &mut [u8]) -> u32
-    ensures { λ r. ⌜ (r ≡ deltaNumber (now (s .entry)) at reference (now (out .entry))) × (now (out .exit) ≡ deltaBytes (now (s .entry)) at reference (now (out .entry))) ⌝ }
+    ensures { λ r. ⌜ (r ≡ deltaNumber (now (s .entry)) at reference (now (out .entry)))
+        × (now (out .exit) ≡ deltaBytes (now (s .entry)) at reference (now (out .entry))) ⌝ }
 {
     if out.len() < 9 {
         return 3;

@@ -19,7 +19,8 @@ use Rattle.ending.specs.declared.Fronts.{Fronts}
 use Rattle.ending.specs.Ending.{madeWith, Finished, Cleared, ended}
 
 -- outcomes with the same answer and the same lists are the same
-pub outcome-eq : (a : Answer) {m m′ n n′ r r′ g g′ s s′ : List ℕ} → m ≡ m′ → n ≡ n′ → r ≡ r′ → g ≡ g′ → s ≡ s′ → outcomeOf a m n r g s ≡ outcomeOf a m′ n′ r′ g′ s′
+pub outcome-eq : (a : Answer) {m m′ n n′ r r′ g g′ s s′ : List ℕ} → m ≡ m′ → n ≡ n′ → r ≡ r′ → g ≡ g′ → s ≡ s′
+    → outcomeOf a m n r g s ≡ outcomeOf a m′ n′ r′ g′ s′
 outcome-eq a {m} {m′} {n} {n′} {r} {r′} {g} {g′} {s} {s′} p q e f h =
     ap (λ (x : List ℕ). outcomeOf a x n r g s) p ∙ ap (λ (x : List ℕ). outcomeOf a m′ x r g s) q ∙ ap (λ (x : List ℕ). outcomeOf a m′ n′ x g s) e
     ∙ ap (λ (x : List ℕ). outcomeOf a m′ n′ r′ x s) f ∙ ap (λ (x : List ℕ). outcomeOf a m′ n′ r′ g′ x) h
@@ -40,7 +41,8 @@ module _ (l : Lent) {v : ℕ} (isTop : v ≡ l .circuit .top .0) where
   scratch-words = omega (arith, isTop, gates-length (l .gates))
 
   pub finished : {a : Answer} {n r s : List ℕ} {e : Walked} {made : ℕ} → e ≡ Reached made
-      → Finished words (l .nexts) (l .roots) (l .map) (l .nextImages) (l .rootImages) (l .scratch) n r s → a ≡ madeWith (length (l .inputs) + length (l .states)) made
+      → Finished words (l .nexts) (l .roots) (l .map) (l .nextImages) (l .rootImages) (l .scratch) n r s
+      → a ≡ madeWith (length (l .inputs) + length (l .states)) made
       → outcomeOf a (l .map) n r (l .gatesOut) s ≡ ended e l
   unfolding ended
   finished {n = n} {r = r} {s = s} e f h =
@@ -49,7 +51,14 @@ module _ (l : Lent) {v : ℕ} (isTop : v ≡ l .circuit .top .0) where
       ∙ outcome-eq _ refl (f .nextsOver) (f .rootsOver) refl (f .clear ∙ ap (λ (k : ℕ). over (zeros k) (l .scratch)) scratch-words))
 
   pub cleared : {m n r g s : List ℕ} {e : Walked} {why : Refusal} → e ≡ Stopped why
-      → Cleared (record { map = v + 1; «next_images» = length (l .states); «root_images» = length (l .roots); «gates_out» = 2 * (length (l .gates) / 3); scratch = words })
+      → Cleared (record {
+        map = v + 1;
+        «next_images» = length (l .states);
+        «root_images» = length (l .roots);
+        «gates_out» = 2
+            * (length (l .gates) / 3);
+        scratch = words;
+      })
       (l .map) (l .nextImages) (l .rootImages) (l .gatesOut) (l .scratch) m n r g s
       → outcomeOf (Refused why) m n r g s ≡ ended e l
   unfolding ended

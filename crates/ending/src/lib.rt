@@ -1,7 +1,7 @@
 // How renumbering ends: with the images and the answer of a success, or with cleared lists. Each function takes whatever it is lent.
 ghost use mathlib.Core.Path.{_≡_};
 ghost use Prim.Native.Nat.{_%_, _^_};
-ghost use Rattle.circuit.specs.Outcome.{lentOf, outcomeOf};
+ghost use Rattle.circuit.specs.Outcome.{left};
 ghost use Rattle.ending.specs.Ending.{madeWith, Finished, Cleared, ended};
 use circuit::Answer;
 use circuit::CircuitRecord;
@@ -56,7 +56,8 @@ fn finish(
     root_images: &mut [u32],
     scratch: &mut [u32],
 )
-    ensures { λ _. ⌜ Finished count (now (nexts .entry)) (now (roots .entry)) (now (map .entry)) (now («next_images» .entry)) (now («root_images» .entry)) (now (scratch .entry)) (now («next_images» .exit)) (now («root_images» .exit)) (now (scratch .exit)) ⌝ }
+    ensures { λ _. ⌜ Finished count (now (nexts .entry)) (now (roots .entry)) (now (map .entry)) (now («next_images» .entry))
+        (now («root_images» .entry)) (now (scratch .entry)) (now («next_images» .exit)) (now («root_images» .exit)) (now (scratch .exit)) ⌝ }
 {
     images::images(map, nexts, next_images);
     images::images(map, roots, root_images);
@@ -72,7 +73,8 @@ fn clear(
     gates_out: &mut [u32],
     scratch: &mut [u32],
 )
-    ensures { λ _. ⌜ Cleared fronts (now (map .entry)) (now («next_images» .entry)) (now («root_images» .entry)) (now («gates_out» .entry)) (now (scratch .entry)) (now (map .exit)) (now («next_images» .exit)) (now («root_images» .exit)) (now («gates_out» .exit)) (now (scratch .exit)) ⌝ }
+    ensures { λ _. ⌜ Cleared fronts (now (map .entry)) (now («next_images» .entry)) (now («root_images» .entry)) (now («gates_out» .entry))
+        (now (scratch .entry)) (now (map .exit)) (now («next_images» .exit)) (now («root_images» .exit)) (now («gates_out» .exit)) (now (scratch .exit)) ⌝ }
 {
     fill_front(map, fronts.map, NO_IMAGE);
     fill_front(next_images, fronts.next_images, 0);
@@ -96,7 +98,26 @@ pub fn conclude(
     gates_out: &mut [u32],
     scratch: &mut [u32],
 ) -> Answer
-    ensures { λ r. ⌜ outcomeOf r (now (map .exit)) (now («next_images» .exit)) (now («root_images» .exit)) (now («gates_out» .exit)) (now (scratch .exit)) ≡ ended end (lentOf circuit (now (inputs .entry)) (now (states .entry)) (now (nexts .entry)) (now (gates .entry)) (now (roots .entry)) (now (map .entry)) (now («next_images» .entry)) (now («root_images» .entry)) (now («gates_out» .entry)) (now (scratch .entry))) ⌝ }
+    ensures { λ r. ⌜ left (record {
+      answer = r;
+      map = now (map .exit);
+      nextImages = now («next_images» .exit);
+      rootImages = now («root_images» .exit);
+      gatesOut = now («gates_out» .exit);
+      scratch = now (scratch .exit);
+    }) ≡ ended end (record {
+      circuit = circuit;
+      inputs = now (inputs .entry);
+      states = now (states .entry);
+      nexts = now (nexts .entry);
+      gates = now (gates .entry);
+      roots = now (roots .entry);
+      map = now (map .entry);
+      nextImages = now («next_images» .entry);
+      rootImages = now («root_images» .entry);
+      gatesOut = now («gates_out» .entry);
+      scratch = now (scratch .entry);
+    }) ⌝ }
 {
     let top = circuit.top;
     let n = wide(top.index()) + 1;

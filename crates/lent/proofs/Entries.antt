@@ -59,7 +59,8 @@ storeFrom-end m ds t i h = rw (drop-at-end ds i h)
 
 storeFrom-append : (m : List ℕ) (t : ℕ) (xs ys : List ℕ) → storeFrom m t (xs ++ ys) ≡ storeFrom (storeFrom m t xs) (t + 2 * length xs) ys
 storeFrom-append m t [] ys = ap (λ (k : ℕ). storeFrom m k ys) (omega arith)
-storeFrom-append m t (x ∷ xs) ys = storeFrom-append (store m x t) (t + 2) xs ys ∙ ap (λ (k : ℕ). storeFrom (storeFrom (store m x t) (t + 2) xs) k ys) (omega arith)
+storeFrom-append m t (x ∷ xs) ys =
+    storeFrom-append (store m x t) (t + 2) xs ys ∙ ap (λ (k : ℕ). storeFrom (storeFrom (store m x t) (t + 2) xs) k ys) (omega arith)
 
 pub begun : (m inputs states m₀ m₁ m₂ m₃ : List ℕ) (x y : Lit) (k : ℕ) → m₀ ≡ replicate (length m) noImage → x ≡ literal 0 → y ≡ literal 0
     → m₁ ≡ store m₀ (x .0) (y .0) → m₂ ≡ storeFrom m₁ 2 inputs → k ≡ 2 + 2 * length inputs → m₃ ≡ storeFrom m₂ k states

@@ -14,7 +14,8 @@ both-equal 𝓤 x y v =
     (λ p. fact-use 𝓤 (y ≡ v) (conjR 𝓤 (fact 𝓤 (x ≡ v)) (fact 𝓤 (y ≡ v)))
     (λ q. factI 𝓤 (x ≡ y) (conj 𝓤 (fact 𝓤 (x ≡ v)) (fact 𝓤 (y ≡ v))) (p ∙ sym q)))
 
-pub answers-determine : {M : Type 1} (𝓤 : URA M) (T : Ended) (says : Clauses 𝓤 T) (answer : (κs : Lfts (T .signature .lifetimes)) → Args (T .signature) κs → Res (T .signature) κs)
+pub answers-determine : {M : Type 1} (𝓤 : URA M) (T : Ended) (says : Clauses 𝓤 T)
+    (answer : (κs : Lfts (T .signature .lifetimes)) → Args (T .signature) κs → Res (T .signature) κs)
     → Answers 𝓤 T says answer → DeterminesHeld 𝓤 T says
 answers-determine 𝓤 T says answer is κs a g x y e f =
     subst (λ (P : SProp 𝓤). ent 𝓤 (conj 𝓤 P (says κs a .ensures g y f)) (fact 𝓤 (x ≡ y))) (sym (is κs a g x e))

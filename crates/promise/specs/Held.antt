@@ -14,7 +14,8 @@ DeterminesHeld 𝓤 T says =
     → ent 𝓤 (conj 𝓤 (says κs a .ensures g x e) (says κs a .ensures g y f)) (fact 𝓤 (x ≡ y))
 
 -- the clause at the return is an equation: the answer is `answer` of the arguments
-abbrev pub Answers : {M : Type 1} (𝓤 : URA M) (T : Ended) → Clauses 𝓤 T → ((κs : Lfts (T .signature .lifetimes)) → Args (T .signature) κs → Res (T .signature) κs) → Type 2
+abbrev pub Answers : {M : Type 1} (𝓤 : URA M) (T : Ended) → Clauses 𝓤 T
+    → ((κs : Lfts (T .signature .lifetimes)) → Args (T .signature) κs → Res (T .signature) κs) → Type 2
 Answers 𝓤 T says answer =
     (κs : Lfts (T .signature .lifetimes)) (a : Args (T .signature) κs) (g : says κs a .ghost) (r : Res (T .signature) κs) (e : AtExit T κs)
     → says κs a .ensures g r e ≡ fact 𝓤 (r ≡ answer κs a)

@@ -79,7 +79,9 @@ module _ (h cs : List ℕ) (taken : Taken h) (all : length cs ≡ codeCount h) w
   gates-long = length-take-le (3 * gateCount h) (drop (inputCount h) cs) (omega (arith, long, length-drop (inputCount h) cs))
 
   pub latches-long : length (latchWords h cs) ≡ 2 * latchCount h
-  latches-long = length-take-le (2 * latchCount h) (drop (inputCount h + 3 * gateCount h) cs) (omega (arith, long, length-drop (inputCount h + 3 * gateCount h) cs))
+  latches-long =
+      length-take-le (2 * latchCount h) (drop (inputCount h + 3 * gateCount h) cs)
+      (omega (arith, long, length-drop (inputCount h + 3 * gateCount h) cs))
 
   pub roots-long : length (rootCodes h cs) ≡ rootCount h
   roots-long = omega (arith, long, length-drop (inputCount h + 3 * gateCount h + 2 * latchCount h) cs)
@@ -138,13 +140,15 @@ module _ (h cs : List ℕ) (taken : Taken h) (all : length cs ≡ codeCount h) w
   pub codes-words : firstOver (2 * topOf h + 1) cs ≡ none → Words cs
   codes-words e i less = omega (arith, none-over (2 * topOf h + 1) cs e i less, bounds taken)
 
-pub lists-circuit : (h cs : List ℕ) {is ss ns gs rs : List ℕ} → is ≡ inputCodes h cs → ss ≡ statesOf (latchWords h cs) → ns ≡ nextsOf (latchWords h cs) → gs ≡ gateWords h cs → rs ≡ rootCodes h cs
+pub lists-circuit : (h cs : List ℕ) {is ss ns gs rs : List ℕ} → is ≡ inputCodes h cs → ss ≡ statesOf (latchWords h cs)
+    → ns ≡ nextsOf (latchWords h cs) → gs ≡ gateWords h cs → rs ≡ rootCodes h cs
     → circuitIn h is ss ns gs rs ≡ circuitOn h cs
 unfolding circuitOn
 lists-circuit h cs p q r s t = rw (p, q, r, s, t)
 
 pub lists-shaped : (h cs : List ℕ) → Taken h → length cs ≡ codeCount h → {is ss ns gs rs : List ℕ}
-    → is ≡ inputCodes h cs → ss ≡ statesOf (latchWords h cs) → ns ≡ nextsOf (latchWords h cs) → gs ≡ gateWords h cs → rs ≡ rootCodes h cs → Shaped h is ss ns gs rs
+    → is ≡ inputCodes h cs → ss ≡ statesOf (latchWords h cs) → ns ≡ nextsOf (latchWords h cs) → gs ≡ gateWords h cs → rs ≡ rootCodes h cs
+    → Shaped h is ss ns gs rs
 lists-shaped h cs taken all p q r s t = rw (p, q, r, s, t) (words-shaped h cs taken all)
 
 -- the codes of a sheet in a longer list, n of them, and the words that they are copied to

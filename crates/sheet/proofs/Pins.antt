@@ -29,7 +29,9 @@ use Rattle.sheet.specs.Promise.{Words, circuitIn, Shaped, Roomy}
 pub told :
     reportOf (0x03 ∷ 0x02 ∷ 0x00 ∷ 0x01 ∷ 0x01 ∷ 0x00 ∷ 0x00 ∷ 0x00 ∷ 0x00 ∷ 0x00 ∷ 0x02 ∷ 0x04 ∷ 0x06 ∷ 0x02 ∷ 0x04 ∷ 0x06 ∷ [])
     ≡ bytes "ordered 3 2 0 1\n6 4 2\nr 6\n"
-unfolding reportOf readOf sheetRead listsRead numbersAt binaryAt goOnAt tooLarge rootCount codeCount circuitOn renumber codes walkAll walked start store flipped walk look imageIn entryImage throughInputs settle settleOn settleAs already nextCode firstCode folded codeOf orderedOf imagesIn textOf orderedText orderedLine gateLine imageLine digitsOf
+unfolding reportOf readOf sheetRead listsRead numbersAt binaryAt goOnAt tooLarge rootCount codeCount circuitOn renumber codes walkAll walked start
+    store flipped walk look imageIn entryImage throughInputs settle settleOn settleAs already nextCode firstCode folded codeOf orderedOf imagesIn textOf
+    orderedText orderedLine gateLine imageLine digitsOf
 told = refl
 
 -- 2. A sheet with all lists, under each setting of the flags.
@@ -52,7 +54,8 @@ latches = 10 ∷ 19 ∷ 8 ∷ 20 ∷ []
 abbrev roots : List ℕ
 roots = 16 ∷ 12 ∷ 18 ∷ 3 ∷ []
 
--- new codes: 4, 2, 7 are 2, 4, 6, the latch states 10, 8 are 8, 10, and gates begin at 12. Trim (1) numbers 18 first, since the first next state reaches it, and
+-- new codes: 4, 2, 7 are 2, 4, 6, the latch states 10, 8 are 8, 10, and gates begin at 12. Trim (1) numbers 18 first, since the first next state
+-- reaches it, and
 -- leaves 22 out; hash (2) makes one gate of the twins, so that 12 is that gate negated; fold (4) gives 16 the image of 20
 pub settings-pinned :
     (reportOf (sheet 0 inputs gates latches roots)
@@ -71,7 +74,9 @@ pub settings-pinned :
     ≡ bytes "ordered 8 3 2 3\n12 4 2\n14 11 8\n16 14 12\nn 15\nn 12\nr 12\nr 13\nr 14\nr 5\n")
     × (reportOf (sheet 7 inputs gates latches roots)
     ≡ bytes "ordered 7 3 2 2\n12 11 8\n14 4 2\nn 13\nn 14\nr 14\nr 15\nr 12\nr 5\n")
-unfolding reportOf readOf sheetRead listsRead numbersAt binaryAt goOnAt tooLarge rootCount codeCount circuitOn renumber codes walkAll walked start store flipped walk look imageIn entryImage throughInputs settle settleOn settleAs already nextCode firstCode folded codeOf orderedOf imagesIn textOf orderedText orderedLine gateLine imageLine digitsOf
+unfolding reportOf readOf sheetRead listsRead numbersAt binaryAt goOnAt tooLarge rootCount codeCount circuitOn renumber codes walkAll walked start
+    store flipped walk look imageIn entryImage throughInputs settle settleOn settleAs already nextCode firstCode folded codeOf orderedOf imagesIn textOf
+    orderedText orderedLine gateLine imageLine digitsOf
 settings-pinned = (refl, refl, refl, refl, refl, refl, refl, refl)
 
 -- 3. Roots of all five kinds: two outputs, three bad states, four constraints, five fairness and six justice literals are one list of twenty, in this order.
@@ -84,7 +89,9 @@ pub kinds-pinned :
     ∷ 18 ∷ 2 ∷ 12 ∷ 15 ∷ 7 ∷ 16 ∷ 17 ∷ 0 ∷ 1 ∷ 3 ∷ 4 ∷ 5 ∷ 8 ∷ 9 ∷ 10 ∷ 11 ∷ 13 ∷ 14 ∷ 19 ∷ 6 ∷ [])
     ≡ bytes "ordered 9 2 3 4\n12 5 3\n14 4 2\n16 14 7\n18 16 12\nn 6\nn 9\nn 0\nr 18\nr 2\n"
     ++ bytes "r 14\nr 13\nr 7\nr 16\nr 17\nr 0\nr 1\nr 3\nr 4\nr 5\nr 8\nr 9\nr 10\nr 11\nr 15\nr 12\nr 19\nr 6\n"
-unfolding reportOf readOf sheetRead listsRead numbersAt binaryAt goOnAt tooLarge rootCount codeCount circuitOn renumber codes walkAll walked start store flipped walk look imageIn entryImage throughInputs settle settleOn settleAs already nextCode firstCode folded codeOf orderedOf imagesIn textOf orderedText orderedLine gateLine imageLine digitsOf
+unfolding reportOf readOf sheetRead listsRead numbersAt binaryAt goOnAt tooLarge rootCount codeCount circuitOn renumber codes walkAll walked start
+    store flipped walk look imageIn entryImage throughInputs settle settleOn settleAs already nextCode firstCode folded codeOf orderedOf imagesIn textOf
+    orderedText orderedLine gateLine imageLine digitsOf
 kinds-pinned = refl
 
 -- 4. Sheets that are refused, in the order of the tests.
@@ -109,7 +116,8 @@ pub pinned :
     ≡ bytes "refused 4 4294967296\n")
     × (reportOf (0x01 ∷ 0x01 ∷ 0x00 ∷ 0x00 ∷ 0x00 ∷ 0x00 ∷ 0x00 ∷ 0x00 ∷ 0x00 ∷ 0x00 ∷ 0x04 ∷ []) ≡ bytes "refused 4 4\n")
     × (reportOf (0x01 ∷ 0x02 ∷ 0x00 ∷ 0x00 ∷ 0x00 ∷ 0x00 ∷ 0x00 ∷ 0x00 ∷ 0x00 ∷ 0x00 ∷ 0x02 ∷ 0x03 ∷ []) ≡ bytes "refused 5 3\n")
-unfolding reportOf readOf sheetRead listsRead numbersAt binaryAt goOnAt tooLarge rootCount codeCount circuitOn renumber codes refusedText beside refusedLine digitsOf
+unfolding reportOf readOf sheetRead listsRead numbersAt binaryAt goOnAt tooLarge rootCount codeCount circuitOn renumber codes refusedText beside
+    refusedLine digitsOf
 pinned = (refl, refl, refl, refl, refl, refl, refl, refl, refl, refl, refl, refl)
 
 -- the sheet with all lists, each time with something wrong
@@ -122,7 +130,8 @@ pub refusals-pinned :
     -- 4: a root alone; a latch's next state before it; a gate's second input before a latch's state; an input before a root; the largest code, 23, passes
     × (reportOf (sheet 0 inputs gates latches (16 ∷ 12 ∷ 18 ∷ 24 ∷ [])) ≡ bytes "refused 4 24\n")
     × (reportOf (sheet 0 inputs gates (10 ∷ 19 ∷ 8 ∷ 27 ∷ []) (16 ∷ 12 ∷ 18 ∷ 24 ∷ [])) ≡ bytes "refused 4 27\n")
-    × (reportOf (sheet 0 inputs (20 ∷ 2 ∷ 4 ∷ 13 ∷ 4 ∷ 2 ∷ 16 ∷ 20 ∷ 1 ∷ 18 ∷ 10 ∷ 9 ∷ 22 ∷ 18 ∷ 26 ∷ []) (24 ∷ 19 ∷ 8 ∷ 20 ∷ []) roots) ≡ bytes "refused 4 26\n")
+    × (reportOf (sheet 0 inputs (20 ∷ 2 ∷ 4 ∷ 13 ∷ 4 ∷ 2 ∷ 16 ∷ 20 ∷ 1 ∷ 18 ∷ 10 ∷ 9 ∷ 22 ∷ 18 ∷ 26 ∷ []) (24 ∷ 19 ∷ 8 ∷ 20 ∷ []) roots) ≡ bytes
+    "refused 4 26\n")
     × (reportOf (sheet 0 (4 ∷ 2 ∷ 25 ∷ []) gates latches (16 ∷ 12 ∷ 18 ∷ 24 ∷ [])) ≡ bytes "refused 4 25\n")
     × (reportOf (sheet 7 inputs gates latches (16 ∷ 12 ∷ 18 ∷ 23 ∷ []))
     ≡ bytes "ordered 8 3 2 3\n12 11 8\n14 4 2\n16 14 12\nn 13\nn 14\nr 14\nr 15\nr 12\nr 17\n")
@@ -135,7 +144,9 @@ pub refusals-pinned :
     × (reportOf (sheet 0 inputs (20 ∷ 2 ∷ 4 ∷ 13 ∷ 4 ∷ 2 ∷ 16 ∷ 20 ∷ 1 ∷ 18 ∷ 10 ∷ 15 ∷ 22 ∷ 18 ∷ 13 ∷ []) latches roots) ≡ bytes "refused 7 15\n")
     -- 8: gate 20(2,17), where 16(20,1): the path is 20, 17, 20 and then 17 is its middle
     × (reportOf (sheet 0 inputs (20 ∷ 2 ∷ 17 ∷ 13 ∷ 4 ∷ 2 ∷ 16 ∷ 20 ∷ 1 ∷ 18 ∷ 10 ∷ 9 ∷ 22 ∷ 18 ∷ 13 ∷ []) latches roots) ≡ bytes "refused 8 17\n")
-unfolding reportOf readOf sheetRead listsRead numbersAt binaryAt goOnAt tooLarge rootCount codeCount circuitOn renumber codes walkAll walked start store flipped walk look imageIn entryImage throughInputs settle settleOn settleAs already nextCode firstCode folded codeOf orderedOf imagesIn textOf orderedText orderedLine gateLine imageLine refusedText beside refusedLine digitsOf
+unfolding reportOf readOf sheetRead listsRead numbersAt binaryAt goOnAt tooLarge rootCount codeCount circuitOn renumber codes walkAll walked start
+    store flipped walk look imageIn entryImage throughInputs settle settleOn settleAs already nextCode firstCode folded codeOf orderedOf imagesIn textOf
+    orderedText orderedLine gateLine imageLine refusedText beside refusedLine digitsOf
 refusals-pinned = (refl, refl, refl, refl, refl, refl, refl, refl, refl, refl, refl, refl, refl, refl)
 
 -- twenty zeros and whatever follows them: 60,000 bytes are too many for the empty circuit, and 60,001 for any
@@ -204,7 +215,37 @@ pub circuit-pinned :
     × (statesOf (30 ∷ 19 ∷ 32 ∷ []) ≡ 30 ∷ []) × (nextsOf (30 ∷ 19 ∷ 32 ∷ []) ≡ 19 ∷ [])
     × (statesOf (30 ∷ []) ≡ []) × (nextsOf (30 ∷ []) ≡ []) × (statesOf [] ≡ []) × (nextsOf [] ≡ [])
 unfolding circuitOn
-circuit-pinned = (refl, refl, refl, refl, refl, refl, refl, refl, refl, refl, refl, refl, refl, refl, refl, refl, refl, refl, refl, refl, refl, refl, refl, refl, refl, refl, refl, refl, refl)
+circuit-pinned = (
+  refl,
+  refl,
+  refl,
+  refl,
+  refl,
+  refl,
+  refl,
+  refl,
+  refl,
+  refl,
+  refl,
+  refl,
+  refl,
+  refl,
+  refl,
+  refl,
+  refl,
+  refl,
+  refl,
+  refl,
+  refl,
+  refl,
+  refl,
+  refl,
+  refl,
+  refl,
+  refl,
+  refl,
+  refl,
+)
 
 -- 6. The words of the library's order: lists as long as a header says, room for the largest circuit on a sheet, and words of 32 bits.
 

@@ -88,8 +88,12 @@ fn report_answer(
     scratch: &mut [u32],
     out: &mut [u8],
 ) -> usize
-    requires { ⌜ Shaped (now header) (now inputs) (now states) (now nexts) (now gates) (now roots) × Roomy (now map) (now «next_images») (now «root_images») (now «gates_out») (now scratch) ⌝ }
-    ensures { λ r. ⌜ Put (now (out .entry)) 0 (outText (circuitIn (now (header .entry)) (now (inputs .entry)) (now (states .entry)) (now (nexts .entry)) (now (gates .entry)) (now (roots .entry))) (renumber (circuitIn (now (header .entry)) (now (inputs .entry)) (now (states .entry)) (now (nexts .entry)) (now (gates .entry)) (now (roots .entry))))) (now (out .exit)) r ⌝ }
+    requires { ⌜ Shaped (now header) (now inputs) (now states) (now nexts) (now gates) (now roots)
+        × Roomy (now map) (now «next_images») (now «root_images») (now «gates_out») (now scratch) ⌝ }
+    ensures { λ r. ⌜ Put (now (out .entry)) 0 (outText
+        (circuitIn (now (header .entry)) (now (inputs .entry)) (now (states .entry)) (now (nexts .entry)) (now (gates .entry)) (now (roots .entry)))
+        (renumber (circuitIn (now (header .entry)) (now (inputs .entry)) (now (states .entry)) (now (nexts .entry)) (now (gates .entry))
+        (now (roots .entry))))) (now (out .exit)) r ⌝ }
 {
     let circuit = header::circuit_on(header);
     let answer = aig::renumber(
@@ -135,7 +139,10 @@ fn report_circuit(
     out: &mut [u8],
 ) -> usize
     requires { ⌜ Shaped (now header) (now inputs) (now states) (now nexts) (now gates) (now roots) ⌝ }
-    ensures { λ r. ⌜ Put (now (out .entry)) 0 (outText (circuitIn (now (header .entry)) (now (inputs .entry)) (now (states .entry)) (now (nexts .entry)) (now (gates .entry)) (now (roots .entry))) (renumber (circuitIn (now (header .entry)) (now (inputs .entry)) (now (states .entry)) (now (nexts .entry)) (now (gates .entry)) (now (roots .entry))))) (now (out .exit)) r ⌝ }
+    ensures { λ r. ⌜ Put (now (out .entry)) 0 (outText
+        (circuitIn (now (header .entry)) (now (inputs .entry)) (now (states .entry)) (now (nexts .entry)) (now (gates .entry)) (now (roots .entry)))
+        (renumber (circuitIn (now (header .entry)) (now (inputs .entry)) (now (states .entry)) (now (nexts .entry)) (now (gates .entry))
+        (now (roots .entry))))) (now (out .exit)) r ⌝ }
 {
     let mut map = map_words();
     let mut next_images = row();
@@ -161,7 +168,8 @@ fn report_circuit(
 // The same of the words of a sheet, its lists in a row.
 fn report_words(header: &[u64], words: &[u32], out: &mut [u8]) -> usize
     requires { ⌜ Taken (now header) × (length (now words) ≡ codeCount (now header)) ⌝ }
-    ensures { λ r. ⌜ Put (now (out .entry)) 0 (outText (circuitOn (now (header .entry)) (now (words .entry))) (renumber (circuitOn (now (header .entry)) (now (words .entry))))) (now (out .exit)) r ⌝ }
+    ensures { λ r. ⌜ Put (now (out .entry)) 0 (outText (circuitOn (now (header .entry)) (now (words .entry)))
+        (renumber (circuitOn (now (header .entry)) (now (words .entry))))) (now (out .exit)) r ⌝ }
 {
     let inputs_end = header[1] as usize;
     let gates_end = inputs_end + 3 * (header[3] as usize);
@@ -188,7 +196,8 @@ fn report_words(header: &[u64], words: &[u32], out: &mut [u8]) -> usize
 // The same of the codes of a sheet: first check 4, since a code may be too big for a word.
 pub fn report_codes(header: &[u64], codes: &[u64], out: &mut [u8]) -> usize
     requires { ⌜ Taken (now header) × (length (now codes) ≡ 7161) ⌝ }
-    ensures { λ r. ⌜ Put (now (out .entry)) 0 (outText (circuitOn (now (header .entry)) (take (codeCount (now (header .entry))) (now (codes .entry)))) (renumber (circuitOn (now (header .entry)) (take (codeCount (now (header .entry))) (now (codes .entry)))))) (now (out .exit)) r ⌝ }
+    ensures { λ r. ⌜ Put (now (out .entry)) 0 (outText (circuitOn (now (header .entry)) (take (codeCount (now (header .entry))) (now (codes .entry))))
+        (renumber (circuitOn (now (header .entry)) (take (codeCount (now (header .entry))) (now (codes .entry)))))) (now (out .exit)) r ⌝ }
 {
     let count = header::code_count(header);
     let offender = first_over(&codes[..count], 2 * header[0] + 1);

@@ -24,7 +24,8 @@ pub ended-reads : (v : ℕ) → v < 2 ^ 64 → (before after : List ℕ) → uin
 ended-reads v small before after = number-reads v 10 small refl before after
 
 -- the same, where the place and the text are otherwise said
-at-place : (s before : List ℕ) (rest : List ℕ) (place v n : ℕ) → s ≡ before ++ rest → place ≡ length before → uintAt (before ++ rest) (length before) ≡ Value v n → uintAt s place ≡ Value v n
+at-place : (s before : List ℕ) (rest : List ℕ) (place v n : ℕ) → s ≡ before ++ rest → place ≡ length before
+    → uintAt (before ++ rest) (length before) ≡ Value v n → uintAt s place ≡ Value v n
 at-place s before rest place v n e f k = ap (λ (l : List ℕ). uintAt l place) e ∙ ap (uintAt (before ++ rest)) f ∙ k
 
 pub refused-reads : (n k : ℕ) → n < 2 ^ 64 → k < 2 ^ 64
@@ -48,10 +49,17 @@ ordered-reads t i l g p q r u after = (
       (spaced-reads t p orderedWord (spaced i ++ (spaced l ++ (ended g ++ after)))),
   at-place _ (orderedWord ++ spaced t) (spaced i ++ (spaced l ++ (ended g ++ after))) (8 + length (spaced t)) i (length (digitsOf i)) (simp append-assoc)
       (sym (length-append orderedWord (spaced t))) (spaced-reads i q (orderedWord ++ spaced t) (spaced l ++ (ended g ++ after))),
-  at-place _ ((orderedWord ++ spaced t) ++ spaced i) (spaced l ++ (ended g ++ after)) (8 + length (spaced t) + length (spaced i)) l (length (digitsOf l)) (simp append-assoc)
+  at-place _ ((orderedWord ++ spaced t) ++ spaced i) (spaced l ++ (ended g ++ after)) (8 + length (spaced t) + length (spaced i)) l
+      (length (digitsOf l)) (simp append-assoc)
       (omega (arith, length-append (orderedWord ++ spaced t) (spaced i), length-append orderedWord (spaced t)))
       (spaced-reads l r ((orderedWord ++ spaced t) ++ spaced i) (ended g ++ after)),
-  at-place _ (((orderedWord ++ spaced t) ++ spaced i) ++ spaced l) (ended g ++ after) (8 + length (spaced t) + length (spaced i) + length (spaced l)) g (length (digitsOf g)) (simp append-assoc)
-      (omega (arith, length-append ((orderedWord ++ spaced t) ++ spaced i) (spaced l), length-append (orderedWord ++ spaced t) (spaced i), length-append orderedWord (spaced t)))
+  at-place _ (((orderedWord ++ spaced t) ++ spaced i) ++ spaced l) (ended g ++ after) (8 + length (spaced t) + length (spaced i) + length (spaced l))
+      g (length (digitsOf g)) (simp append-assoc)
+      (omega (
+        arith,
+        length-append ((orderedWord ++ spaced t) ++ spaced i) (spaced l),
+        length-append (orderedWord ++ spaced t) (spaced i),
+        length-append orderedWord (spaced t),
+      ))
       (ended-reads g u (((orderedWord ++ spaced t) ++ spaced i) ++ spaced l) after),
 )

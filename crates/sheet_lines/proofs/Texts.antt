@@ -46,7 +46,8 @@ each-append : {A : Type 0} (line : A → List ℕ) (xs ys : List A) → each lin
 each-append line [] ys = refl
 each-append line (x ∷ xs) ys = ap (λ (l : List ℕ). line x ++ l) (each-append line xs ys) ∙ sym (append-assoc (line x) (each line xs) (each line ys))
 
-each-more : {A : Type 0} (line : A → List ℕ) (xs : List A) (i : ℕ) (d : A) → i < length xs → each line (take (i + 1) xs) ≡ each line (take i xs) ++ line (getD xs i d)
+each-more : {A : Type 0} (line : A → List ℕ) (xs : List A) (i : ℕ) (d : A) → i < length xs
+    → each line (take (i + 1) xs) ≡ each line (take i xs) ++ line (getD xs i d)
 each-more {A} line xs i d h =
     ap (λ (k : ℕ). each line (take k xs)) (add-one i) ∙ ap (each line) (take-suc xs i d h) ∙ each-append line (take i xs) (getD xs i d ∷ [])
     ∙ ap (λ (l : List ℕ). each line (take i xs) ++ l) (append-nil (line (getD xs i d)))
@@ -64,7 +65,8 @@ module _ {A : Type 0} {line : A → List ℕ} {xs : List A} {o₀ : List ℕ} {a
       → Listing line xs o₀ at o′ (i + 1) place′
   listing-more d {bs} {o′} {place′} short h e q =
       let both : Put o₀ at (each line (take i xs) ++ bs) o′ place′ = put-then short (l .sofar) (λ _. q) in
-      let more : each line (take i xs) ++ bs ≡ each line (take (i + 1) xs) = ap (λ (b : List ℕ). each line (take i xs) ++ b) e ∙ sym (each-more line xs i d h) in
+      let more : each line (take i xs) ++ bs ≡ each line (take (i + 1) xs) = ap (λ (b : List ℕ). each line (take i xs) ++ b) e
+      ∙ sym (each-more line xs i d h) in
       record {
         inside = omega arith;
         sofar = record { left = both .left ∙ ap (putAll o₀ at) more; next = both .next ∙ ap (λ (b : List ℕ). further at (length b)) more };

@@ -1,4 +1,5 @@
--- The theorems of the report's lines. What each rests on stands in the laws' files beside this one; each line and text as bytes, by example, in Pins. Assumes nothing.
+-- The theorems of the report's lines. What each rests on stands in the laws' files beside this one; each line and text as bytes, by example, in Pins.
+-- Assumes nothing.
 pub use Rattle.sheet_lines.proofs.Pins.{lines-pinned, success-pinned, refusals-pinned, put-pinned}
 use Prim.Native.Nat.{ℕ, _+_, _^_, _<_}
 use mathlib.Core.Path.{_≡_, sym, _∙_}

@@ -103,7 +103,8 @@ pub fn print_ordered(
     roots: &[u32],
     out: &mut [u8],
 ) -> usize
-    ensures { λ r. ⌜ Put (now (out .entry)) 0 (orderedText summary inputs (now (nexts .entry)) (pairsOf (now (gates .entry))) (now (roots .entry))) (now (out .exit)) r ⌝ }
+    ensures { λ r. ⌜ Put (now (out .entry)) 0 (orderedText summary inputs (now (nexts .entry)) (pairsOf (now (gates .entry))) (now (roots .entry)))
+        (now (out .exit)) r ⌝ }
 {
     let latches = nexts.len() as u64;
     let top = summary.top;

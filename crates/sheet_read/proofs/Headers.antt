@@ -24,7 +24,8 @@ drop-one l i h = rw (add-one i) (drop-cons l i 0 h)
 pub over-here : (bound : ℕ) (ns : List ℕ) (i n : ℕ) → i < length ns → bound < n → n ≡ getD ns i 0 → Over n ≡ offender (firstOver bound (drop i ns))
 over-here bound ns i n h p e = rw (drop-one ns i h, ← e, lt-leb n bound p)
 
-pub over-on : (bound : ℕ) (ns : List ℕ) (i n : ℕ) → i < length ns → n ≤ bound → n ≡ getD ns i 0 → firstOver bound (drop i ns) ≡ firstOver bound (drop (i + 1) ns)
+pub over-on : (bound : ℕ) (ns : List ℕ) (i n : ℕ) → i < length ns → n ≤ bound → n ≡ getD ns i 0
+    → firstOver bound (drop i ns) ≡ firstOver bound (drop (i + 1) ns)
 over-on bound ns i n h p e = rw (drop-one ns i h, ← e, le-leb n bound p)
 
 pub over-end : (bound : ℕ) (ns : List ℕ) (i : ℕ) → length ns ≤ i → Nothing ≡ offender (firstOver bound (drop i ns))
@@ -48,7 +49,10 @@ small-at {h} t k less =
     omega (arith, none-over sizeLimit (take 9 h) (t .nine) k (omega arith))
 
 pub five : (h : List ℕ) → length h ≡ 10 → getD h 4 0 ∷ getD h 5 0 ∷ getD h 6 0 ∷ getD h 7 0 ∷ getD h 8 0 ∷ [] ≡ rootCounts h
-five h ten = sym (ap (take 5) (at 4 (omega arith) ∙ ap (λ (l : List ℕ). getD h 4 0 ∷ l) (at 5 (omega arith) ∙ ap (λ (l : List ℕ). getD h 5 0 ∷ l) (at 6 (omega arith) ∙ ap (λ (l : List ℕ). getD h 6 0 ∷ l) (at 7 (omega arith) ∙ ap (λ (l : List ℕ). getD h 7 0 ∷ l) (at 8 (omega arith)))))))
+five h ten =
+    sym (ap (take 5) (at 4 (omega arith) ∙ ap (λ (l : List ℕ). getD h 4 0 ∷ l)
+    (at 5 (omega arith) ∙ ap (λ (l : List ℕ). getD h 5 0 ∷ l)
+    (at 6 (omega arith) ∙ ap (λ (l : List ℕ). getD h 6 0 ∷ l) (at 7 (omega arith) ∙ ap (λ (l : List ℕ). getD h 7 0 ∷ l) (at 8 (omega arith)))))))
   where
     at : (k : ℕ) → k < length h → drop k h ≡ getD h k 0 ∷ drop (suc k) h
     at k less = drop-cons h k 0 less

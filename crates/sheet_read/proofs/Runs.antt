@@ -31,7 +31,8 @@ filling-none s at list =
     record { inside = omega arith; same = refl; rest = refl; run = ap (numbersAt s at) all }
 
 module _ {s : List ℕ} {at : ℕ} {list₀ list : List ℕ} {i place : ℕ} (f : Filling s at list₀ list i place) where
-  one-more : i < length list₀ → numbersAt s place (length list₀ - i) ≡ onward (binaryAt s place) (λ v used. prepended v (numbersAt s (place + used) (length list₀ - (i + 1))))
+  one-more : i < length list₀ → numbersAt s place (length list₀ - i) ≡ onward (binaryAt s place)
+      (λ v used. prepended v (numbersAt s (place + used) (length list₀ - (i + 1))))
   unfolding numbersAt
   one-more h = let e : length list₀ - i ≡ suc (length list₀ - (i + 1)) = omega arith in ap (numbersAt s place) e
 
@@ -40,7 +41,8 @@ module _ {s : List ℕ} {at : ℕ} {list₀ list : List ℕ} {i place : ℕ} (f 
       let next : numbersAt s place (length list₀ - i) ≡ prepended v (numbersAt s (place + used) (length list₀ - (i + 1))) =
       one-more h ∙ ap (λ (t : Token). onward t (λ x u. prepended x (numbersAt s (place + u) (length list₀ - (i + 1))))) e in
       let r : Run = numbersAt s (place + used) (length list₀ - (i + 1)) in
-      let front : take (i + 1) (set list i v) ≡ take i list ++ (v ∷ []) = ap (λ (k : ℕ). take k (set list i v)) (add-one i) ∙ take-suc-set list i v (omega (arith, f .same)) in
+      let front : take (i + 1) (set list i v) ≡ take i list ++ (v ∷ []) = ap (λ (k : ℕ). take k (set list i v)) (add-one i)
+      ∙ take-suc-set list i v (omega (arith, f .same)) in
       record {
         inside = omega arith;
         same = length-set list i v ∙ f .same;
@@ -69,10 +71,12 @@ module _ {s : List ℕ} {at : ℕ} {list₀ list : List ℕ} {i place : ℕ} (f 
 
   ending : (r : Run) → r .numbers ≡ [] → numbersAt s at (length list₀) ≡ behind (take i list) r → Fills (numbersAt s at (length list₀)) (r .ended) list₀ list
   ending r none e =
-      let ns : numbersAt s at (length list₀) .numbers ≡ take i list = ap (λ (x : Run). x .numbers) e ∙ ap (λ (l : List ℕ). take i list ++ l) none ∙ append-nil (take i list) in
+      let ns : numbersAt s at (length list₀) .numbers ≡ take i list = ap (λ (x : Run). x .numbers) e ∙ ap (λ (l : List ℕ). take i list ++ l) none
+      ∙ append-nil (take i list) in
       (sym (ap (λ (x : Run). x .ended) e), left (numbersAt s at (length list₀) .numbers) ns)
 
-  pub filling-broken : (why : Reason) (p : ℕ) → i < length list₀ → binaryAt s place ≡ Refused why p → Fills (numbersAt s at (length list₀)) (Broken why p) list₀ list
+  pub filling-broken : (why : Reason) (p : ℕ) → i < length list₀ → binaryAt s place ≡ Refused why p
+      → Fills (numbersAt s at (length list₀)) (Broken why p) list₀ list
   filling-broken why p h e =
       ending (runOf [] (Broken why p)) refl
       (f .run ∙ ap (behind (take i list)) (one-more h ∙ ap (λ (t : Token). onward t (λ x u. prepended x (numbersAt s (place + u) (length list₀ - (i + 1))))) e))

@@ -53,7 +53,8 @@ module _ (s h cs : List ℕ) (at : ℕ) where
     codes-left : cs′ ≡ onto (numbersAt s at n .numbers) cs
     codes-left = onto-front (numbersAt s at n .numbers) cs front cs′ n (run-few s at n) room (fills .1) left
 
-    told : (r : Reading) → codesRead s h (numbersAt s at n .numbers) end ≡ readAs r h (numbersAt s at n .numbers) → ReadsCodes (headerRead s h (After at)) r cs cs′
+    told : (r : Reading) → codesRead s h (numbersAt s at n .numbers) end ≡ readAs r h (numbersAt s at n .numbers)
+        → ReadsCodes (headerRead s h (After at)) r cs cs′
     told r e =
         let x = read-is (readAs r h (numbersAt s at n .numbers)) e in
         (sym (ap (λ (y : Read). y .reading) x), codes-left ∙ ap (λ (y : Read). onto (y .codes) cs) (sym x))
@@ -64,7 +65,8 @@ module _ (s h cs : List ℕ) (at : ℕ) where
     pub lists-whole : (place : ℕ) → end ≡ After place → length s ≤ place → ReadsCodes (headerRead s h (After at)) Whole cs cs′
     lists-whole place k all = told Whole (rw (k, le-ltb place (length s) all))
 
-    pub lists-broken : (r : Reading) (why : Reason) (place : ℕ) → r ≡ Faulty (reasonNumber why) place → end ≡ Broken why place → ReadsCodes (headerRead s h (After at)) r cs cs′
+    pub lists-broken : (r : Reading) (why : Reason) (place : ℕ) → r ≡ Faulty (reasonNumber why) place → end ≡ Broken why place
+        → ReadsCodes (headerRead s h (After at)) r cs cs′
     lists-broken r why place e k = told r (rw (k, e))
 
 -- the header of a sheet is what was read of it, unless the sheet is too long
@@ -111,11 +113,13 @@ module _ (s h₀ cs₀ : List ℕ) where
         let x : readOf s ≡ readAs r (run .numbers) [] = read-as ∙ rw (k, e) in
         (sym (ap (λ (y : Read). y .reading) x), header-is ∙ ap (λ (y : Read). onto (y .header) h₀) (sym x), ap (λ (y : Read). onto (y .codes) cs₀) (sym x))
 
-    pub sheet-lists : (r : Reading) (place : ℕ) (cs : List ℕ) → end ≡ After place → ReadsCodes (headerRead s h (After place)) r cs₀ cs → Reads (readOf s) r h₀ h cs₀ cs
+    pub sheet-lists : (r : Reading) (place : ℕ) (cs : List ℕ) → end ≡ After place → ReadsCodes (headerRead s h (After place)) r cs₀ cs
+        → Reads (readOf s) r h₀ h cs₀ cs
     sheet-lists r place cs k reads =
         let long : length (run .numbers) ≡ length h₀ = run-whole s 0 10 place (sym ended-is ∙ k) ∙ sym ten in
         let all : run .numbers ≡ h = sym (header-is ∙ onto-all (run .numbers) h₀ long) in
-        let x : readOf s ≡ headerRead s h (After place) = read-as ∙ ap (headerRead s (run .numbers)) k ∙ ap (λ (l : List ℕ). headerRead s l (After place)) all in
+        let x : readOf s ≡ headerRead s h (After place) = read-as ∙ ap (headerRead s (run .numbers)) k
+        ∙ ap (λ (l : List ℕ). headerRead s l (After place)) all in
         let kept : readOf s .header ≡ h = ap (λ (y : Read). y .header) x ∙ header-kept s h (After place) in (
           reads .0 ∙ ap (λ (y : Read). y .reading) (sym x),
           sym (ap (λ (l : List ℕ). onto l h₀) kept ∙ onto-all h h₀ (ap length (sym all) ∙ long)),
@@ -127,7 +131,8 @@ module _ (s h₀ cs₀ : List ℕ) where
 faulty-whole : (n k : ℕ) → Faulty n k ≡ Whole → ⊥
 faulty-whole n k e = let z : _≡_ {A = ℕ} 0 1 = cc in omega arith
 
-lists-taken : (s h : List ℕ) (at : ℕ) → headerRead s h (After at) .reading ≡ Whole → (tooLarge h ≡ false) × (length (headerRead s h (After at) .codes) ≡ codeCount h)
+lists-taken : (s h : List ℕ) (at : ℕ) → headerRead s h (After at) .reading ≡ Whole → (tooLarge h ≡ false)
+    × (length (headerRead s h (After at) .codes) ≡ codeCount h)
 unfolding listsRead
 lists-taken s h at e = go (tooLarge h) refl (ltb 7 (flagsOf h)) (numbersAt s at (codeCount h) .ended) refl e
   where
@@ -183,5 +188,7 @@ sheet-got s h₀ h cs₀ cs r ten room reads w =
       taken = subst⁻¹ Taken same (t .0);
       room = ap length (reads .2) ∙ onto-length (readOf s .codes) cs₀ (omega (arith, t .1)) ∙ room;
       header = same;
-      codes = ap (λ (l : List ℕ). take (codeCount l) cs) same ∙ ap (take (codeCount (readOf s .header))) (reads .2) ∙ onto-take (readOf s .codes) cs₀ (codeCount (readOf s .header)) (t .1);
+      codes =
+          ap (λ (l : List ℕ). take (codeCount l) cs) same ∙ ap (take (codeCount (readOf s .header))) (reads .2)
+          ∙ onto-take (readOf s .codes) cs₀ (codeCount (readOf s .header)) (t .1);
     }

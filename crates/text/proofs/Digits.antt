@@ -39,8 +39,12 @@ pub decimal-more : (out : List ℕ) (at v : ℕ) (out₁ out′ : List ℕ) (pla
     → b ≡ 48 + v % 10 → out′ ≡ set out₁ place b → r ≡ further place 1
     → (out′ ≡ putAll out at (digitsOf v)) × (r ≡ further at (length (digitsOf v)))
 decimal-more out at v out₁ out′ place r b ten fits short tenth d e f =
-    let stored : set (putAll out at (digitsOf (v / 10))) (further at (length (digitsOf (v / 10)))) (48 + v % 10) ≡ putAll out at (digitsOf (v / 10) ++ ((48 + v % 10) ∷ [])) = put-all-on out at (digitsOf (v / 10)) ((48 + v % 10) ∷ []) short in
-    let after : further (further at (length (digitsOf (v / 10)))) 1 ≡ further at (length (digitsOf (v / 10) ++ ((48 + v % 10) ∷ []))) = place-on at (digitsOf (v / 10)) ((48 + v % 10) ∷ []) in (
-      e ∙ ap (set out₁ place) d ∙ ap (λ (l : List ℕ). set l place (48 + v % 10)) (tenth .0) ∙ ap (λ (i : ℕ). set (putAll out at (digitsOf (v / 10))) i (48 + v % 10)) (tenth .1) ∙ stored ∙ ap (putAll out at) (sym (digits-last v ten fits)),
+    let stored : set (putAll out at (digitsOf (v / 10))) (further at (length (digitsOf (v / 10)))) (48 + v % 10) ≡ putAll out at
+    (digitsOf (v / 10) ++ ((48 + v % 10) ∷ [])) = put-all-on out at (digitsOf (v / 10)) ((48 + v % 10) ∷ []) short in
+    let after : further (further at (length (digitsOf (v / 10)))) 1 ≡ further at (length (digitsOf (v / 10) ++ ((48 + v % 10) ∷ []))) = place-on at
+    (digitsOf (v / 10)) ((48 + v % 10) ∷ []) in (
+      e ∙ ap (set out₁ place) d ∙ ap (λ (l : List ℕ). set l place (48 + v % 10)) (tenth .0)
+          ∙ ap (λ (i : ℕ). set (putAll out at (digitsOf (v / 10))) i (48 + v % 10)) (tenth .1) ∙ stored
+          ∙ ap (putAll out at) (sym (digits-last v ten fits)),
       f ∙ ap (λ (i : ℕ). further i 1) (tenth .1) ∙ after ∙ ap (λ (l : List ℕ). further at (length l)) (sym (digits-last v ten fits)),
     )

@@ -36,10 +36,12 @@ put-all-fits out at bs room = as-sets out at bs ∙ sets-eq bs out at room ∙ a
     as-sets l i (v ∷ vs) = as-sets (set l i v) (suc i) vs
 
 -- any text: as much of it as fits
-pub put-all-is : (out : List ℕ) (at : ℕ) (bs : List ℕ) → at ≤ length out → putAll out at bs ≡ take at out ++ (take (length out - at) bs ++ drop (at + length bs) out)
+pub put-all-is : (out : List ℕ) (at : ℕ) (bs : List ℕ) → at ≤ length out
+    → putAll out at bs ≡ take at out ++ (take (length out - at) bs ++ drop (at + length bs) out)
 put-all-is out at bs there =
     min-cases (length bs) (length out - at) _
-    (λ fits _. put-all-fits out at bs (omega arith) ∙ ap (λ (l : List ℕ). take at out ++ (l ++ drop (at + length bs) out)) (sym (take-all (length out - at) bs fits)))
+    (λ fits _. put-all-fits out at bs (omega arith)
+    ∙ ap (λ (l : List ℕ). take at out ++ (l ++ drop (at + length bs) out)) (sym (take-all (length out - at) bs fits)))
     (λ over _. cut (length out - at) (omega arith) over)
   where
     cut : (k : ℕ) → at + k ≡ length out → k ≤ length bs → putAll out at bs ≡ take at out ++ (take k bs ++ drop (at + length bs) out)
@@ -48,7 +50,8 @@ put-all-is out at bs there =
         ap (putAll out at) (sym (take-append-drop k bs)) ∙ put-all-append out at (take k bs) (drop k bs)
         ∙ put-all-past (putAll out at (take k bs)) (at + length (take k bs)) (drop k bs) (omega (arith, length-put-all out at (take k bs)))
         ∙ put-all-fits out at (take k bs) (omega arith)
-        ∙ ap (λ (l : List ℕ). take at out ++ (take k bs ++ l)) (drop-of-length-le out {i = at + length (take k bs)} (omega arith) ∙ sym (drop-of-length-le out {i = at + length bs} (omega arith)))
+        ∙ ap (λ (l : List ℕ). take at out ++ (take k bs ++ l))
+        (drop-of-length-le out {i = at + length (take k bs)} (omega arith) ∙ sym (drop-of-length-le out {i = at + length bs} (omega arith)))
 
 -- a text at the place that the one before it answered: what is left, and the place after both
 pub put-all-on : (out : List ℕ) (at : ℕ) (bs cs : List ℕ) → length out ≤ last → putAll (putAll out at bs) (further at (length bs)) cs ≡ putAll out at (bs ++ cs)
@@ -58,7 +61,8 @@ put-all-on out at bs cs short = there ∙ sym (put-all-append out at bs cs)
     there =
         let n : length (putAll out at bs) ≡ length out = length-put-all out at bs in
         min-cases (at + length bs) last _ (λ _ e. ap (λ (i : ℕ). putAll (putAll out at bs) i cs) e)
-        (λ over e. ap (λ (i : ℕ). putAll (putAll out at bs) i cs) e ∙ put-all-past (putAll out at bs) last cs (omega arith) ∙ sym (put-all-past (putAll out at bs) (at + length bs) cs (omega arith)))
+        (λ over e. ap (λ (i : ℕ). putAll (putAll out at bs) i cs) e ∙ put-all-past (putAll out at bs) last cs (omega arith)
+        ∙ sym (put-all-past (putAll out at bs) (at + length bs) cs (omega arith)))
 
 pub place-on : (at : ℕ) (bs cs : List ℕ) → further (further at (length bs)) (length cs) ≡ further at (length (bs ++ cs))
 place-on at bs cs = further-twice at (length bs) (length cs) ∙ ap (further at) (sym (length-append bs cs))
@@ -78,10 +82,14 @@ module _ {out₀ : List ℕ} {at : ℕ} {s out : List ℕ} {i place : ℕ} (p : 
   putting-more out′ place′ there short e f =
       let n : length (take i s) ≡ i = length-take-le i s (omega arith) in
       let next : take (i + 1) s ≡ take i s ++ (getD s i 0 ∷ []) = ap (λ (k : ℕ). take k s) (add-one i) ∙ take-suc s i 0 there in
-      let stored : set (putAll out₀ at (take i s)) (further at (length (take i s))) (getD s i 0) ≡ putAll out₀ at (take i s ++ (getD s i 0 ∷ [])) = put-all-on out₀ at (take i s) (getD s i 0 ∷ []) short in
+      let stored : set (putAll out₀ at (take i s)) (further at (length (take i s))) (getD s i 0) ≡ putAll out₀ at (take i s ++ (getD s i 0 ∷ []))
+      = put-all-on out₀ at (take i s) (getD s i 0 ∷ []) short in
       record {
         inside = omega arith;
-        left = e ∙ ap (λ (l : List ℕ). set l place (getD s i 0)) (p .left) ∙ ap (λ (k : ℕ). set (putAll out₀ at (take i s)) k (getD s i 0)) (p .after ∙ ap (further at) (sym n)) ∙ stored ∙ ap (putAll out₀ at) (sym next);
+        left =
+            e ∙ ap (λ (l : List ℕ). set l place (getD s i 0)) (p .left)
+            ∙ ap (λ (k : ℕ). set (putAll out₀ at (take i s)) k (getD s i 0)) (p .after ∙ ap (further at) (sym n)) ∙ stored
+            ∙ ap (putAll out₀ at) (sym next);
         after = f ∙ ap (λ (k : ℕ). further k 1) (p .after) ∙ further-twice at i 1;
       }
 

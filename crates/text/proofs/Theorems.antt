@@ -51,7 +51,8 @@ front-is-text out bs fits =
 
 -- one text after the other, at the place that the first answered, is both in a row, and answers the place after both
 pub in-a-row : (out : List ℕ) (at : ℕ) (bs cs : List ℕ) → length out ≤ last
-    → (putAll (putAll out at bs) (further at (length bs)) cs ≡ putAll out at (bs ++ cs)) × (further (further at (length bs)) (length cs) ≡ further at (length (bs ++ cs)))
+    → (putAll (putAll out at bs) (further at (length bs)) cs ≡ putAll out at (bs ++ cs))
+    × (further (further at (length bs)) (length cs) ≡ further at (length (bs ++ cs)))
 in-a-row out at bs cs short = (puts.put-all-on out at bs cs short, puts.place-on at bs cs)
 
 -- 3. Measuring: with no room nothing is stored, and from the start the place answered is the text's length.
@@ -61,7 +62,8 @@ measured bs short = (puts.put-all-past [] 0 bs (omega arith), omega arith)
 
 -- 4. What is printed reads back, where it fitted and no digit stands after it.
 
-pub printed-reads-back : (out : List ℕ) (at v : ℕ) → v < 2 ^ 64 → at + length (digitsOf v) ≤ length out → leading isDigit (drop (at + length (digitsOf v)) out) ≡ 0
+pub printed-reads-back : (out : List ℕ) (at v : ℕ) → v < 2 ^ 64 → at + length (digitsOf v) ≤ length out
+    → leading isDigit (drop (at + length (digitsOf v)) out) ≡ 0
     → uintAt (putAll out at (digitsOf v)) at ≡ Value v (length (digitsOf v))
 printed-reads-back out at v fits room stop =
     let before : length (take at out) ≡ at = length-take-le at out (omega arith) in

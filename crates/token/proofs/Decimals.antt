@@ -62,7 +62,8 @@ decimal-next l n h = rw (add-one, take-suc l n 0) (decimal-snoc 0 (take n l) (ge
 pub decimal-part : (l : List ℕ) (n m : ℕ) → n ≤ m → decimalValue (take n l) ≤ decimalValue (take m l)
 decimal-part l n m h =
     let split : m ≡ n + (m - n) = omega arith in
-    let e : decimalValue (take m l) ≡ decimalFrom (decimalValue (take n l)) (take (m - n) (drop n l)) = ap (λ (k : ℕ). decimalValue (take k l)) split ∙ ap decimalValue (take-add n (m - n) l) ∙ decimal-append 0 (take n l) (take (m - n) (drop n l)) in
+    let e : decimalValue (take m l) ≡ decimalFrom (decimalValue (take n l)) (take (m - n) (drop n l)) = ap (λ (k : ℕ). decimalValue (take k l)) split
+    ∙ ap decimalValue (take-add n (m - n) l) ∙ decimal-append 0 (take n l) (take (m - n) (drop n l)) in
     omega (arith, decimal-grows (decimalValue (take n l)) (take (m - n) (drop n l)))
 
 -- how many digits stand at a place
@@ -96,7 +97,12 @@ pub digit-tested : (s : List ℕ) (at : ℕ) → at < length s → 48 ≤ getD s
 digit-tested s at h low = go (leb (getD s at 0) 57) refl
   where
     go : (t : Bool) → leb (getD s at 0) 57 ≡ t → t ≡ ltb 0 (digitsAt s at)
-    go true e = rw (digits-more s at (getD s at 0) h refl (digit-yes (getD s at 0) low (omega (arith, leb-true (getD s at 0) 57 e))), lt-ltb 0 (suc (digitsAt s (at + 1))) (omega arith))
+    go true e =
+        rw (
+          digits-more s at (getD s at 0) h refl (digit-yes (getD s at 0) low (omega (arith, leb-true (getD s at 0) 57 e))),
+          lt-ltb 0
+              (suc (digitsAt s (at + 1))) (omega arith),
+        )
     go false e = rw (digits-none s at (getD s at 0) h refl (digit-over (getD s at 0) (leb-false (getD s at 0) 57 e)))
 
 -- a loop over the digits at a place: n of them are passed, and write v
@@ -150,7 +156,8 @@ module _ {s : List ℕ} {at n v : ℕ} (p : DigitsPassed s at n v) where
     module _ {d : ℕ} (digit : d ≡ getD s (at + n) 0 - 48) where
       digit-more : digitsAt s at ≡ n + 1 + digitsAt s (at + (n + 1))
       digit-more =
-          let one : digitsAt s (at + n) ≡ suc (digitsAt s (at + n + 1)) = digits-more s (at + n) (getD s (at + n) 0) digit-there refl (digits-some s (at + n) some .1) in
+          let one : digitsAt s (at + n) ≡ suc (digitsAt s (at + n + 1)) = digits-more s (at + n) (getD s (at + n) 0) digit-there refl
+          (digits-some s (at + n) some .1) in
           let next : at + n + 1 ≡ at + (n + 1) = omega arith in
           rw (← next) (omega (arith, p .rest))
 
@@ -175,7 +182,8 @@ module _ {s : List ℕ} {at n v : ℕ} (p : DigitsPassed s at n v) where
       -- or it does not
       pub digits-passed-over : (18446744073709551615 - d) / 10 < v → Refused OverWidth at ≡ decimalAt s at
       digits-passed-over h =
-          let more : decimalValue (take (n + 1) (drop at s)) ≤ decimalValue (take (digitsAt s at) (drop at s)) = decimal-part (drop at s) (n + 1) (digitsAt s at) (omega (arith, digit-more)) in
+          let more : decimalValue (take (n + 1) (drop at s)) ≤ decimalValue (take (digitsAt s at) (drop at s)) = decimal-part (drop at s) (n + 1)
+          (digitsAt s at) (omega (arith, digit-more)) in
           rw (le-ltb (decimalValue (take (digitsAt s at) (drop at s))) (2 ^ 64) (omega (arith, writes)))
 
 -- what `uint` answers, by the first byte

@@ -89,7 +89,8 @@ pub pair-read : (s : List ℕ) (at code a b used : ℕ) → pairAt s at code ≡
 unfolding pairAt
 pair-read s at code a b used e = go (deltaAt s at code) refl e
   where
-    then : (x n : ℕ) → deltaAt s at code ≡ Value x n → (t : Token) → deltaAt s (at + n) x ≡ t → pairSecond code at x n t ≡ Inputs a b used → Paired s at code a b used
+    then : (x n : ℕ) → deltaAt s at code ≡ Value x n → (t : Token) → deltaAt s (at + n) x ≡ t → pairSecond code at x n t ≡ Inputs a b used
+        → Paired s at code a b used
     then x n f (Refused why place) g q = let z : _≡_ {A = ℕ} 0 1 = cc in absurd (omega arith)
     then x n f (Value y m) g q =
         let same : x ≡ a = cc in

@@ -58,7 +58,8 @@ groups-snoc (x ∷ xs) b =
 -- the first n + 1 groups write what the first n do, and 128 ^ n times the one at n
 pub groups-next : (l : List ℕ) (n : ℕ) → n < length l → groupsValue (take (n + 1) l) ≡ groupsValue (take n l) + getD l n 0 % 128 * 128 ^ n
 groups-next l n h =
-    rw (add-one, take-suc l n 0) (groups-snoc (take n l) (getD l n 0) ∙ ap (λ (k : ℕ). groupsValue (take n l) + getD l n 0 % 128 * 128 ^ k) (length-take-le n l (omega arith)))
+    rw (add-one, take-suc l n 0) (groups-snoc (take n l) (getD l n 0)
+    ∙ ap (λ (k : ℕ). groupsValue (take n l) + getD l n 0 % 128 * 128 ^ k) (length-take-le n l (omega arith)))
 
 -- a loop over the groups at a place: n of them are passed, go on and write v, and the next weighs w
 

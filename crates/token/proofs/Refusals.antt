@@ -66,7 +66,8 @@ module _ (s : List ℕ) (at v n limit : ℕ) (e : uintAt s at ≡ Value v n) whe
   assigns-even some even = rw (e, ne-eqb v 0 some, ne-eqb (v % 2) 1 (omega arith))
 
   -- the others answer what the limit makes of it
-  pub all-limited : (t : Token) → within limit at (Value v n) ≡ t → (headerFieldAt s at limit ≡ t) × (litAt s at limit false ≡ t) × (symbolIndexAt s at limit ≡ t)
+  pub all-limited : (t : Token) → within limit at (Value v n) ≡ t → (headerFieldAt s at limit ≡ t) × (litAt s at limit false ≡ t)
+      × (symbolIndexAt s at limit ≡ t)
   unfolding headerFieldAt litAt symbolIndexAt
   all-limited t q = (rw e q, rw e q, rw e q)
 
@@ -155,7 +156,8 @@ pub pair-place : (s : List ℕ) (at code : ℕ) (why : Reason) (place : ℕ) →
 unfolding pairAt
 pair-place s at code why place e = go (deltaAt s at code) refl e
   where
-    then : (a n : ℕ) → deltaAt s at code ≡ Value a n → (t : Token) → deltaAt s (at + n) a ≡ t → pairSecond code at a n t ≡ PairRefused why place → RefusedDelta s at code why place
+    then : (a n : ℕ) → deltaAt s at code ≡ Value a n → (t : Token) → deltaAt s (at + n) a ≡ t → pairSecond code at a n t ≡ PairRefused why place
+        → RefusedDelta s at code why place
     then a n f (Value b m) g q = let z : _≡_ {A = ℕ} 0 1 = cc in absurd (omega arith)
     then a n f (Refused w p) g q =
         let r : deltaAt s (at + n) a ≡ Refused why place = cc in

@@ -28,7 +28,8 @@ grouped-run (final {b} h) after = rw (lt-leb 128 b h)
 grouped-run (group {b} on small g) after = rw (le-leb 128 b on) (omega (arith, grouped-run g after))
 
 -- of bytes that begin with the grouped bs, eight at most, the reader takes bs
-grouped-taken : (bs after : List ℕ) → Grouped bs → length bs ≤ 8 → (n at : ℕ) → n + 1 ≡ length bs → binaryOf (bs ++ after) n at ≡ Value (groupsValue bs) (length bs)
+grouped-taken : (bs after : List ℕ) → Grouped bs → length bs ≤ 8 → (n at : ℕ) → n + 1 ≡ length bs
+    → binaryOf (bs ++ after) n at ≡ Value (groupsValue bs) (length bs)
 grouped-taken bs after g few n at e =
     let whole : take (n + 1) (bs ++ after) ≡ bs = take-at bs after (n + 1) (sym e) in
     rw (lt-leb 8 n (omega arith), lt-leb (length (bs ++ after)) n (omega (arith, length-append bs after)), whole, e)

@@ -60,7 +60,8 @@ digits-snoc (x ∷ ds) d a low high = (a .0, digits-snoc ds d (a .1) low high)
 digits-all : (k v : ℕ) → v < 10 ^ suc k → Digits (digitsUpTo k v)
 digits-all zero v h = ((omega arith, omega arith), tt)
 digits-all (suc k) v h =
-    cases k v Digits (λ small. ((omega arith, omega arith), tt)) (λ big. digits-snoc (digitsUpTo k (v / 10)) (48 + v % 10) (digits-all k (v / 10) (tenth k v h)) (omega arith) (omega arith))
+    cases k v Digits (λ small. ((omega arith, omega arith), tt))
+    (λ big. digits-snoc (digitsUpTo k (v / 10)) (48 + v % 10) (digits-all k (v / 10) (tenth k v h)) (omega arith) (omega arith))
 
 digits-nonempty : (k v : ℕ) → 1 ≤ length (digitsUpTo k v)
 digits-nonempty zero v = omega arith
@@ -137,7 +138,8 @@ by-last (suc k) (x ∷ xs) d rec n h p =
     let b : 48 + (v * 10 + (d - 48)) % 10 ≡ d = omega (arith, l .1 .0, l .1 .1) in
     let r : digitsUpTo k v ≡ x ∷ xs = rec k refl (omega (arith, length-append xs (d ∷ []))) (l .0) (q .0) in
     ap (λ (m : ℕ). digitsUpTo (suc k) m) w ∙ large-first k (v * 10 + (d - 48)) (omega (arith, q .1, big))
-    ∙ ap (λ (m : ℕ). digitsUpTo k m ++ ((48 + (v * 10 + (d - 48)) % 10) ∷ [])) a ∙ ap (λ (m : ℕ). digitsUpTo k v ++ (m ∷ [])) b ∙ ap (λ (ys : List ℕ). ys ++ (d ∷ [])) r
+    ∙ ap (λ (m : ℕ). digitsUpTo k m ++ ((48 + (v * 10 + (d - 48)) % 10) ∷ [])) a ∙ ap (λ (m : ℕ). digitsUpTo k v ++ (m ∷ [])) b
+    ∙ ap (λ (ys : List ℕ). ys ++ (d ∷ [])) r
 
 by-view : (k : ℕ) (ds : List ℕ) → Snoc ds → ((xs : List ℕ) (j : ℕ) → suc j ≡ k → Spells j xs) → Spells k ds
 by-view k ds (none e) rec = λ n h p. absurd (subst Plain e p)
@@ -197,8 +199,18 @@ unfolding uintAt digitsAt
 plain-reads ds a p fits before after stop =
     let n : ℕ = length ds in
     let first : getD (before ++ (ds ++ after)) (length before) 0 ≡ getD ds 0 0
-    = ap (λ (i : ℕ). getD (before ++ (ds ++ after)) i 0) (sym (add-zero (length before))) ∙ getD-append-add before (ds ++ after) 0 0 ∙ List·getD-append ds after 0 0 (plain-some ds p) in
-    rw (first, drop-append-seam before (ds ++ after), digits-run ds after a stop, take-append-seam ds after, ne-eqb n 0 (omega (arith, plain-some ds p)), no-leading ds p, lt-ltb (decimalValue ds) (2 ^ 64) fits)
+    = ap (λ (i : ℕ). getD (before ++ (ds ++ after)) i 0) (sym (add-zero (length before))) ∙ getD-append-add before (ds ++ after) 0 0
+    ∙ List·getD-append ds after 0 0 (plain-some ds p) in
+    rw (
+      first,
+      drop-append-seam before (ds ++ after),
+      digits-run ds after a stop,
+      take-append-seam ds after,
+      ne-eqb n 0
+          (omega (arith, plain-some ds p)),
+      no-leading ds p,
+      lt-ltb (decimalValue ds) (2 ^ 64) fits,
+    )
 
 pub decimal-reads-back : (v : ℕ) → v < 2 ^ 64 → (before after : List ℕ) → leading isDigit after ≡ 0
     → uintAt (before ++ (digitsOf v ++ after)) (length before) ≡ Value v (length (digitsOf v))

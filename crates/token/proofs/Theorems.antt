@@ -153,7 +153,8 @@ pub leading-zero-first : (s : List ℕ) (at : ℕ) → 2 ≤ digitsAt s at → g
 leading-zero-first s at two zeroth = refusals.everyone-refuses s at LeadingZero (refusals.leading-zero s at two zeroth)
 
 -- any other run of digits that does not fit 64 bits is 12 at once, whoever reads it
-pub over-width-at-once : (s : List ℕ) (at : ℕ) → (getD s at 0 ≡ 48 → ⊥) → 2 ^ 64 ≤ decimalValue (take (digitsAt s at) (drop at s)) → Everyone s at (Refused OverWidth at)
+pub over-width-at-once : (s : List ℕ) (at : ℕ) → (getD s at 0 ≡ 48 → ⊥) → 2 ^ 64 ≤ decimalValue (take (digitsAt s at) (drop at s))
+    → Everyone s at (Refused OverWidth at)
 over-width-at-once s at other large = refusals.everyone-refuses s at OverWidth (refusals.over-width s at other large)
 
 -- a number that fits: `lit` when assigning tests 13, then 14, and then as the others

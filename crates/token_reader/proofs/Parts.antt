@@ -1,4 +1,5 @@
--- What every walk over a reader uses: the reader's type, what it owns taken apart, and how a walk with one call becomes the function's theorem. Assumes nothing.
+-- What every walk over a reader uses: the reader's type, what it owns taken apart, and how a walk with one call becomes the function's theorem.
+-- Assumes nothing.
 use mathlib.Core.Path.{_≡_}
 use mathlib.Core.List.{[], _∷_}
 use lib.ListN.{length}
@@ -53,14 +54,18 @@ pub halves : {M : Type 1} (𝓤 : URA M) (H : Heap 𝓤) (A : Atoms 𝓤) → Gi
     → ent 𝓤 (sem 𝓤 H A (ReaderOwn κ d)) (sep 𝓤 (sem 𝓤 H A (BytesOwn κ d)) (sem 𝓤 H A (ReaderOwn κ d)))
 halves 𝓤 H A W κ d =
     qed W (‵ (ReaderOwn κ d) ∷ []) ∵
-    use1 W (‵ (ReaderOwn κ d) ⊛ ‵ (ReaderOwn κ d)) (LL.copy (declared (κ, tt)) (T′.the-copy (namedLft 1 0 tt (κ, tt))) 𝓤 H A W .twice d (T′.lowered d ∷ [])) $ split ! $
-    use1 W (given (T′.lowered d ∷ [] ≡ T′.lowered d ∷ []) (‵ (all-own (declared (κ, tt) .parts) (laws (κ, tt)) (d .bytes, (d .at, tt))))) (own-open 𝓤 H A W (declared (κ, tt)) (laws (κ, tt)) (d .bytes, (d .at, tt)) (T′.lowered d)) $
-    learn ! (λ _. use1 W (‵ (BytesOwn κ d) ⊛ ‵ (rest (declared (κ, tt) .parts) (laws (κ, tt)) 0 (d .bytes, (d .at, tt)))) (own-out 𝓤 H A W (declared (κ, tt) .parts) (laws (κ, tt)) 0 (d .bytes, (d .at, tt))) $ split ! $
+    use1 W (‵ (ReaderOwn κ d) ⊛ ‵ (ReaderOwn κ d))
+    (LL.copy (declared (κ, tt)) (T′.the-copy (namedLft 1 0 tt (κ, tt))) 𝓤 H A W .twice d (T′.lowered d ∷ [])) $ split ! $
+    use1 W (given (T′.lowered d ∷ [] ≡ T′.lowered d ∷ []) (‵ (all-own (declared (κ, tt) .parts) (laws (κ, tt)) (d .bytes, (d .at, tt)))))
+    (own-open 𝓤 H A W (declared (κ, tt)) (laws (κ, tt)) (d .bytes, (d .at, tt)) (T′.lowered d)) $
+    learn ! (λ _. use1 W (‵ (BytesOwn κ d) ⊛ ‵ (rest (declared (κ, tt) .parts) (laws (κ, tt)) 0 (d .bytes, (d .at, tt))))
+    (own-out 𝓤 H A W (declared (κ, tt) .parts) (laws (κ, tt)) 0 (d .bytes, (d .at, tt))) $ split ! $
     -- [what bytes owns; what at owns; what the reader owns]
     move ! (1 ∷ []) $ drop ! $ frame ! $ done !)
 
 -- a function that makes one call meets its contract, by a walk of its MIR over any tables in which the callee meets its own, and by the callee's theorem
-pub one-call : {M : Type 1} (𝓤 : URA M) (H : Heap 𝓤) (𝓜 : Model 𝓤 H) (𝓡 : Running 𝓤 H 𝓜) (callee : Contract 𝓤) (caller : Contract 𝓤) (calls : Env) (name : Name) (f : Fn)
+pub one-call : {M : Type 1} (𝓤 : URA M) (H : Heap 𝓤) (𝓜 : Model 𝓤 H) (𝓡 : Running 𝓤 H 𝓜) (callee : Contract 𝓤) (caller : Contract 𝓤) (calls : Env)
+    (name : Name) (f : Fn)
     → Closed 𝓤 H (tables 𝓤 H 𝓜 𝓡 calls .C) (tables 𝓤 H 𝓜 𝓡 calls .Λ) name f
     → (called : Name) (r : Routine) → calls called ≡ r → Triple 𝓤 (𝓡 .run r) callee
     → ((𝓣 : Tables 𝓤 H) → Triple 𝓤 (𝓣 .C called) callee → Triple 𝓤 (WpFn 𝓤 H (𝓣 .C) (𝓣 .Λ) f) caller)

@@ -130,12 +130,14 @@ module _ (r : TokenReader) (short : length (now (r .bytes)) ≤ last) where
       let u = binary-uses (now (r .bytes)) (r .at) v n e in
       moves r _ v n e (omega arith)
 
-  pub after-delta-code : (reference v n : ℕ) → deltaAt (now (r .bytes)) (r .at) reference ≡ Value v n → movedPast r (deltaAt (now (r .bytes)) (r .at) reference) ≡ placed r (r .at + n)
+  pub after-delta-code : (reference v n : ℕ) → deltaAt (now (r .bytes)) (r .at) reference ≡ Value v n
+      → movedPast r (deltaAt (now (r .bytes)) (r .at) reference) ≡ placed r (r .at + n)
   after-delta-code reference v n e =
       let u = delta-uses (now (r .bytes)) (r .at) reference v n e in
       moves r _ v n e (omega arith)
 
-  pub after-header-field : (limit v n : ℕ) → headerFieldAt (now (r .bytes)) (r .at) limit ≡ Value v n → movedPast r (headerFieldAt (now (r .bytes)) (r .at) limit) ≡ placed r (r .at + n)
+  pub after-header-field : (limit v n : ℕ) → headerFieldAt (now (r .bytes)) (r .at) limit ≡ Value v n
+      → movedPast r (headerFieldAt (now (r .bytes)) (r .at) limit) ≡ placed r (r .at + n)
   after-header-field limit v n e =
       let u = decimal-uses (now (r .bytes)) (r .at) v n (header-field-read (now (r .bytes)) (r .at) limit v n e) in
       moves r _ v n e (omega arith)
@@ -146,12 +148,14 @@ module _ (r : TokenReader) (short : length (now (r .bytes)) ≤ last) where
       let u = decimal-uses (now (r .bytes)) (r .at) v n (lit-read (now (r .bytes)) (r .at) limit assigning v n e) in
       moves r _ v n e (omega arith)
 
-  pub after-symbol-index : (limit v n : ℕ) → symbolIndexAt (now (r .bytes)) (r .at) limit ≡ Value v n → movedPast r (symbolIndexAt (now (r .bytes)) (r .at) limit) ≡ placed r (r .at + n)
+  pub after-symbol-index : (limit v n : ℕ) → symbolIndexAt (now (r .bytes)) (r .at) limit ≡ Value v n
+      → movedPast r (symbolIndexAt (now (r .bytes)) (r .at) limit) ≡ placed r (r .at + n)
   after-symbol-index limit v n e =
       let u = decimal-uses (now (r .bytes)) (r .at) v n (symbol-index-read (now (r .bytes)) (r .at) limit v n e) in
       moves r _ v n e (omega arith)
 
-  pub after-pair : (code a b n : ℕ) → pairAt (now (r .bytes)) (r .at) code ≡ Inputs a b n → movedPastPair r (pairAt (now (r .bytes)) (r .at) code) ≡ placed r (r .at + n)
+  pub after-pair : (code a b n : ℕ) → pairAt (now (r .bytes)) (r .at) code ≡ Inputs a b n
+      → movedPastPair r (pairAt (now (r .bytes)) (r .at) code) ≡ placed r (r .at + n)
   after-pair code a b n e =
       let u = pair-uses (now (r .bytes)) (r .at) code a b n e in
       moves-pair r _ a b n e (omega arith)

@@ -17,13 +17,26 @@ index-requires-2 : tie.Need-index-requires-2
 index-requires-2 c κs = tt
 
 returns : tie.Need-returns
-returns c = lookup-above (c .before .before .before .before .before .args .top .0) (now (c .before .before .before .before .before .args .map)) (c .before .before .before .before .before .args .lit .0) (omega (arith, c .before .before .before .index .ensures, c .before .index2 .ensures, ap (λ (v : Var). v .0) (c .before .before .var .ensures)))
+returns c =
+    let varAt = c .before .before in
+    let indexAt = varAt .before in
+    let entry = indexAt .before .before in
+    let a = entry .args in
+    lookup-above (a .top .0) (now (a .map)) (a .lit .0) (omega
+    (arith, indexAt .index .ensures, c .before .index2 .ensures, ap (λ (v : Var). v .0) (varAt .var .ensures)))
 
 image-requires : tie.Need-image-requires
 image-requires c κs = tt
 
 returns-2 : tie.Need-returns-2
-returns-2 c = c .image .ensures ∙ lookup-within (c .before .before .before .before .before .before .args .top .0) (now (c .before .before .before .before .before .before .args .map)) (c .before .before .before .before .before .before .args .lit .0) (omega (arith, c .before .before .before .before .index .ensures, c .before .before .index2 .ensures, ap (λ (v : Var). v .0) (c .before .before .before .var .ensures)))
+returns-2 c =
+    let index2At = c .before .before in
+    let varAt = index2At .before in
+    let indexAt = varAt .before in
+    let entry = indexAt .before .before in
+    let a = entry .args in
+    c .image .ensures ∙ lookup-within (a .top .0) (now (a .map)) (a .lit .0)
+    (omega (arith, indexAt .index .ensures, index2At .index2 .ensures, ap (λ (v : Var). v .0) (varAt .var .ensures)))
 
 pub lookup-spec : {M : Type 1} → statement M
 lookup-spec =

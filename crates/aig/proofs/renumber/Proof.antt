@@ -16,8 +16,16 @@ enum-told c = c .match .keys1
 
 walk-all-requires : tie.Need-walk-all-requires
 walk-all-requires c κs =
-    let a = c .before .before .before .before .before .before .before .before .before .before .before .before .before .before .before .before .before .before .before .before .before .args in
-    walk-in (lentOf (a .circuit) (now (a .inputs)) (now (a .states)) (now (a .nexts)) (now (a .gates)) (now (a .roots)) (now (a .map)) (now (a .next-images)) (now (a .root-images)) (now (a .gates-out)) (now (a .scratch))) (passed (lentOf (a .circuit) (now (a .inputs)) (now (a .states)) (now (a .nexts)) (now (a .gates)) (now (a .roots)) (now (a .map)) (now (a .next-images)) (now (a .root-images)) (now (a .gates-out)) (now (a .scratch))) (sym (c .before .before .before .before .before .checked .ensures) ∙ c .before .before .before .enum-told .given .1))
+    let enumToldAt = c .before .before .before in
+    let checkedAt = enumToldAt .before .before in
+    let entry =
+    checkedAt .before .before .before .before .before .before .before .before .before .before .before .before .before .before
+    .before .before in
+    let a = entry .args in
+    let lent =
+    lentOf (a .circuit) (now (a .inputs)) (now (a .states)) (now (a .nexts)) (now (a .gates)) (now (a .roots)) (now (a .map)) (now (a .next-images))
+    (now (a .root-images)) (now (a .gates-out)) (now (a .scratch)) in
+    walk-in lent (passed lent (sym (checkedAt .checked .ensures) ∙ enumToldAt .enum-told .given .1))
 
 conclude-requires : tie.Need-conclude-requires
 conclude-requires c κs = tt
@@ -26,24 +34,59 @@ enum-known-check : tie.Need-enum-known-check
 enum-known-check c = c .match .keys2
 
 same-length : tie.Need-same-length
-same-length c = c .before .before .before .before .before .before .before .before .before .before .conclude .kept .1 .1 .1 .1 .1 .1 .1 .0 ∙ c .before .before .before .before .before .before .before .before .before .before .before .before .before .before .before .before .before .before .before .before .before .before .walk-all .kept .1 .1 .1 .1 .1 .1 .0
+same-length c =
+    let concludeAt = c .before .before .before .before .before .before .before .before .before .before in
+    let walkAllAt = concludeAt .before .before .before .before .before .before .before .before .before .before .before .before in
+    let concludeMapKept = concludeAt .conclude .kept .1 .1 .1 .1 .1 .1 .1 .0 in
+    let walkAllMapKept = walkAllAt .walk-all .kept .1 .1 .1 .1 .1 .1 .0 in
+    concludeMapKept ∙ walkAllMapKept
 
 same-length-2 : tie.Need-same-length-2
-same-length-2 c = c .before .before .before .before .before .before .before .before .before .before .conclude .kept .1 .1 .1 .1 .1 .1 .1 .1 .0
+same-length-2 c =
+    let concludeAt = c .before .before .before .before .before .before .before .before .before .before in
+    let concludeNextImagesKept = concludeAt .conclude .kept .1 .1 .1 .1 .1 .1 .1 .1 .0 in
+    concludeNextImagesKept
 
 same-length-3 : tie.Need-same-length-3
-same-length-3 c = c .before .before .before .before .before .before .before .before .before .before .conclude .kept .1 .1 .1 .1 .1 .1 .1 .1 .1 .0
+same-length-3 c =
+    let concludeAt = c .before .before .before .before .before .before .before .before .before .before in
+    let concludeRootImagesKept = concludeAt .conclude .kept .1 .1 .1 .1 .1 .1 .1 .1 .1 .0 in
+    concludeRootImagesKept
 
 same-length-4 : tie.Need-same-length-4
-same-length-4 c = c .before .before .before .before .before .before .before .before .before .before .conclude .kept .1 .1 .1 .1 .1 .1 .1 .1 .1 .1 .0 ∙ c .before .before .before .before .before .before .before .before .before .before .before .before .before .before .before .before .before .before .before .before .before .before .walk-all .kept .1 .1 .1 .1 .1 .1 .1 .0
+same-length-4 c =
+    let concludeAt = c .before .before .before .before .before .before .before .before .before .before in
+    let walkAllAt = concludeAt .before .before .before .before .before .before .before .before .before .before .before .before in
+    let concludeGatesOutKept = concludeAt .conclude .kept .1 .1 .1 .1 .1 .1 .1 .1 .1 .1 .0 in
+    let walkAllGatesOutKept = walkAllAt .walk-all .kept .1 .1 .1 .1 .1 .1 .1 .0 in
+    concludeGatesOutKept ∙ walkAllGatesOutKept
 
 same-length-5 : tie.Need-same-length-5
-same-length-5 c = c .before .before .before .before .before .before .before .before .before .before .conclude .kept .1 .1 .1 .1 .1 .1 .1 .1 .1 .1 .1 .0 ∙ c .before .before .before .before .before .before .before .before .before .before .before .before .before .before .before .before .before .before .before .before .before .before .walk-all .kept .1 .1 .1 .1 .1 .1 .1 .1 .0
+same-length-5 c =
+    let concludeAt = c .before .before .before .before .before .before .before .before .before .before in
+    let walkAllAt = concludeAt .before .before .before .before .before .before .before .before .before .before .before .before in
+    let concludeScratchKept = concludeAt .conclude .kept .1 .1 .1 .1 .1 .1 .1 .1 .1 .1 .1 .0 in
+    let walkAllScratchKept = walkAllAt .walk-all .kept .1 .1 .1 .1 .1 .1 .1 .1 .0 in
+    concludeScratchKept ∙ walkAllScratchKept
 
 returns : tie.Need-returns
 returns c =
-    let a = c .before .before .before .before .before .before .before .before .before .before .before .before .before .before .before .before .before .before .before .before .before .before .before .before .before .before .before .before .before .before .before .before .before .before .before .before .before .before .before .before .before .before .before .before .args in
-    c .before .before .before .before .before .before .before .before .before .before .conclude .ensures ∙ ends (lentOf (a .circuit) (now (a .inputs)) (now (a .states)) (now (a .nexts)) (now (a .gates)) (now (a .roots)) (now (a .map)) (now (a .next-images)) (now (a .root-images)) (now (a .gates-out)) (now (a .scratch))) (passed (lentOf (a .circuit) (now (a .inputs)) (now (a .states)) (now (a .nexts)) (now (a .gates)) (now (a .roots)) (now (a .map)) (now (a .next-images)) (now (a .root-images)) (now (a .gates-out)) (now (a .scratch))) (sym (c .before .before .before .before .before .before .before .before .before .before .before .before .before .before .before .before .before .before .before .before .before .before .before .before .before .before .before .before .checked .ensures) ∙ c .before .before .before .before .before .before .before .before .before .before .before .before .before .before .before .before .before .before .before .before .before .before .before .before .before .before .enum-told .given .1)) _ _ _ _ (c .before .before .before .before .before .before .before .before .before .before .before .before .before .before .before .before .before .before .before .before .before .before .walk-all .ensures) (c .before .before .before .before .before .before .before .before .before .before .before .before .before .before .before .before .before .before .before .before .before .before .walk-all .kept .1 .1 .1 .1 .1 .1 .0) (c .before .before .before .before .before .before .before .before .before .before .before .before .before .before .before .before .before .before .before .before .before .before .walk-all .kept .1 .1 .1 .1 .1 .1 .1 .0) (c .before .before .before .before .before .before .before .before .before .before .before .before .before .before .before .before .before .before .before .before .before .before .walk-all .kept .1 .1 .1 .1 .1 .1 .1 .1 .0)
+    let concludeAt = c .before .before .before .before .before .before .before .before .before .before in
+    let walkAllAt = concludeAt .before .before .before .before .before .before .before .before .before .before .before .before in
+    let enumToldAt = walkAllAt .before .before .before .before in
+    let checkedAt = enumToldAt .before .before in
+    let entry =
+    checkedAt .before .before .before .before .before .before .before .before .before .before .before .before .before .before
+    .before .before in
+    let walkAllMapKept = walkAllAt .walk-all .kept .1 .1 .1 .1 .1 .1 .0 in
+    let walkAllGatesOutKept = walkAllAt .walk-all .kept .1 .1 .1 .1 .1 .1 .1 .0 in
+    let walkAllScratchKept = walkAllAt .walk-all .kept .1 .1 .1 .1 .1 .1 .1 .1 .0 in
+    let a = entry .args in
+    let lent =
+    lentOf (a .circuit) (now (a .inputs)) (now (a .states)) (now (a .nexts)) (now (a .gates)) (now (a .roots)) (now (a .map)) (now (a .next-images))
+    (now (a .root-images)) (now (a .gates-out)) (now (a .scratch)) in
+    concludeAt .conclude .ensures ∙ ends lent (passed lent (sym (checkedAt .checked .ensures) ∙ enumToldAt .enum-told .given .1)) _ _ _ _
+    (walkAllAt .walk-all .ensures) (walkAllMapKept) (walkAllGatesOutKept) (walkAllScratchKept)
 
 same-length-6 : tie.Need-same-length-6
 same-length-6 c = refl
@@ -62,8 +105,15 @@ same-length-10 c = refl
 
 returns-2 : tie.Need-returns-2
 returns-2 c =
-    let a = c .before .before .before .before .before .before .before .before .before .before .before .before .before .before .before .before .before .before .before .args in
-    failed (lentOf (a .circuit) (now (a .inputs)) (now (a .states)) (now (a .nexts)) (now (a .gates)) (now (a .roots)) (now (a .map)) (now (a .next-images)) (now (a .root-images)) (now (a .gates-out)) (now (a .scratch))) _ (sym (c .before .before .before .checked .ensures) ∙ c .before .check .given .1)
+    let checkedAt = c .before .before .before in
+    let entry =
+    checkedAt .before .before .before .before .before .before .before .before .before .before .before .before .before .before
+    .before .before in
+    let a = entry .args in
+    let lent =
+    lentOf (a .circuit) (now (a .inputs)) (now (a .states)) (now (a .nexts)) (now (a .gates)) (now (a .roots)) (now (a .map)) (now (a .next-images))
+    (now (a .root-images)) (now (a .gates-out)) (now (a .scratch)) in
+    failed lent _ (sym (checkedAt .checked .ensures) ∙ c .before .check .given .1)
 
 pub renumber-spec : {M : Type 1} → statement M
 renumber-spec =

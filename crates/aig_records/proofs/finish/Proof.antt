@@ -1,4 +1,5 @@
--- `finish` meets its contract: after a refusal nothing is done; else the flat entry answers for the front of the list, and that front is cleared. Assumes nothing.
+-- `finish` meets its contract: after a refusal nothing is done; else the flat entry answers for the front of the list, and that front is cleared.
+-- Assumes nothing.
 use borrow.Author.Needs.{needs}
 use Rattle.aig_records.proofs.finish.Statement.{statement}
 use Rattle.aig_records.proofs.finish.Tie as tie
@@ -25,7 +26,9 @@ slice-reshare-prefix-renumber : tie.Need-slice-reshare-prefix-renumber
 slice-reshare-prefix-renumber c = search needs
 
 slice-aggregate-renumber : tie.Need-slice-aggregate-renumber
-slice-aggregate-renumber c = front-length _ (now (c .before .before .before .before .before .before .before .before .before .before .before .before .before .before .args .flat)) (c .before .before .before .before .before .before .before .before .before .before .before .before .before .before .pre)
+slice-aggregate-renumber c =
+    let entry = c .before .before .before .before .before .before .before .before .before .before .before .before .before .before in
+    front-length _ (now (entry .args .flat)) (entry .pre)
 
 renumber-requires : tie.Need-renumber-requires
 renumber-requires c κs = search needs
@@ -34,13 +37,24 @@ slice-relend-prefix-fill : tie.Need-slice-relend-prefix-fill
 slice-relend-prefix-fill c = search needs
 
 slice-aggregate-fill : tie.Need-slice-aggregate-fill
-slice-aggregate-fill c = front-length _ (now (c .before .before .before .before .before .before .before .before .before .before .before .before .before .before .before .before .before .before .before .before .before .before .before .before .before .before .before .before .before .before .before .args .flat)) (c .before .before .before .before .before .before .before .before .before .before .before .before .before .before .before .before .before .before .before .before .before .before .before .before .before .before .before .before .before .before .before .pre)
+slice-aggregate-fill c =
+    let entry =
+    c .before .before .before .before .before .before .before .before .before .before .before .before .before .before
+    .before .before .before .before .before .before .before .before .before .before .before .before .before .before .before .before
+    .before in
+    front-length _ (now (entry .args .flat)) (entry .pre)
 
 fill-requires : tie.Need-fill-requires
 fill-requires c κs = search needs
 
 returns : tie.Need-returns
-returns c = let a = c .before .before .before .before .before .before .before .before .before .before .before .before .before .args in sym (ap (λ (k : Check). finished k (lentOf (a .circuit) (now (a .inputs)) (now (a .states)) (now (a .nexts)) (take (a .checked .laid * 3) (now (a .flat))) (now (a .roots)) (now (a .map)) (now (a .next-images)) (now (a .root-images)) (now (a .gates-out)) (now (a .scratch))) (now (a .flat))) (c .before .check .given .1))
+returns c =
+    let entry = c .before .before .before .before .before .before .before .before .before .before .before .before .before in
+    let a = entry .args in
+    let lent =
+    lentOf (a .circuit) (now (a .inputs)) (now (a .states)) (now (a .nexts)) (take (a .checked .laid * 3) (now (a .flat))) (now (a .roots))
+    (now (a .map)) (now (a .next-images)) (now (a .root-images)) (now (a .gates-out)) (now (a .scratch)) in
+    sym (ap (λ (k : Check). finished k lent (now (a .flat))) (c .before .check .given .1))
 
 same-length : tie.Need-same-length
 same-length c = search needs
@@ -61,7 +75,17 @@ same-length-6 : tie.Need-same-length-6
 same-length-6 c = search needs
 
 returns-2 : tie.Need-returns-2
-returns-2 c = let a = c .before .before .before .before .before .before .before .before .before .before .before .before .before .before .before .before .before .before .before .before .before .before .before .before .before .before .before .before .before .before .before .before .before .before .args in finish-passed (lentOf (a .circuit) (now (a .inputs)) (now (a .states)) (now (a .nexts)) (take (a .checked .laid * 3) (now (a .flat))) (now (a .roots)) (now (a .map)) (now (a .next-images)) (now (a .root-images)) (now (a .gates-out)) (now (a .scratch))) (now (a .flat)) (a .checked .laid * 3) (sym (front-length _ (now (a .flat)) (c .before .before .before .before .before .before .before .before .before .before .before .before .before .before .before .before .before .before .before .before .before .before .before .before .before .before .before .before .before .before .before .before .before .before .pre))) (a .checked .check) (cc) _ (c .before .before .before .before .before .before .before .before .before .before .before .before .before .before .renumber .ensures) _ (c .before .before .fill .ensures)
+returns-2 c =
+    let fillAt = c .before .before in
+    let renumberAt = fillAt .before .before .before .before .before .before .before .before .before .before .before .before in
+    let enumToldAt = renumberAt .before .before .before .before .before .before .before .before in
+    let entry = enumToldAt .before .before .before .before .before .before .before .before .before .before .before .before in
+    let a = entry .args in
+    let lent =
+    lentOf (a .circuit) (now (a .inputs)) (now (a .states)) (now (a .nexts)) (take (a .checked .laid * 3) (now (a .flat))) (now (a .roots))
+    (now (a .map)) (now (a .next-images)) (now (a .root-images)) (now (a .gates-out)) (now (a .scratch)) in
+    finish-passed lent (now (a .flat)) (a .checked .laid * 3) (sym (front-length _ (now (a .flat)) (entry .pre))) (a .checked .check) (enumToldAt .enum-told .given .1) _
+    (renumberAt .renumber .ensures) _ (fillAt .fill .ensures)
 
 pub finish-spec : {M : Type 1} → statement M
 finish-spec =

@@ -10,13 +10,27 @@ sum-requires : tie.Need-sum-requires
 sum-requires c κs = tt
 
 returns : tie.Need-returns
-returns c = let a = c .before .before .before .before .before .before .before .args in shape-counts (lentOf (a .circuit) [] (now (a .states)) (now (a .nexts)) (now (a .gates)) (now (a .roots)) [] [] [] [] []) _ (c .before .sum .ensures) (c .if1 .taken)
+returns c =
+    let entry = c .before .before .before .before .before .before .before in
+    let a = entry .args in
+    let lent = lentOf (a .circuit) [] (now (a .states)) (now (a .nexts)) (now (a .gates)) (now (a .roots)) [] [] [] [] [] in
+    shape-counts lent _ (c .before .sum .ensures) (c .if1 .taken)
 
 returns-2 : tie.Need-returns-2
-returns-2 c = let a = c .before .before .before .before .before .before .before .before .args in shape-latches (lentOf (a .circuit) [] (now (a .states)) (now (a .nexts)) (now (a .gates)) (now (a .roots)) [] [] [] [] []) _ (c .before .before .sum .ensures) (c .before .if1 .left) (c .if2 .taken)
+returns-2 c =
+    let sumAt = c .before .before in
+    let entry = sumAt .before .before .before .before .before .before in
+    let a = entry .args in
+    let lent = lentOf (a .circuit) [] (now (a .states)) (now (a .nexts)) (now (a .gates)) (now (a .roots)) [] [] [] [] [] in
+    shape-latches lent _ (sumAt .sum .ensures) (c .before .if1 .left) (c .if2 .taken)
 
 returns-3 : tie.Need-returns-3
-returns-3 c = let a = c .before .before .before .before .before .before .before .before .args in shape-gates (lentOf (a .circuit) [] (now (a .states)) (now (a .nexts)) (now (a .gates)) (now (a .roots)) [] [] [] [] []) _ (c .before .before .sum .ensures) (c .before .if1 .left) (c .if2 .left)
+returns-3 c =
+    let sumAt = c .before .before in
+    let entry = sumAt .before .before .before .before .before .before in
+    let a = entry .args in
+    let lent = lentOf (a .circuit) [] (now (a .states)) (now (a .nexts)) (now (a .gates)) (now (a .roots)) [] [] [] [] [] in
+    shape-gates lent _ (sumAt .sum .ensures) (c .before .if1 .left) (c .if2 .left)
 
 pub is-misshapen-spec : {M : Type 1} → statement M
 is-misshapen-spec = tie.close (tie.spec sum-requires returns returns-2 returns-3)

@@ -27,7 +27,15 @@ enum-told : tie.Need-enum-told
 enum-told c = c .match .keys1
 
 returns : tie.Need-returns
-returns c = let a = c .before .before .before .before .before .before .before .before .before .before .before .args in c .enum-told .given .1 ∙ in-inputs (bare (a .circuit) (now (a .inputs)) (now (a .states)) (now (a .nexts)) (now (a .gates)) (now (a .roots))) _ (ap (λ (k : ℕ). 2 * k + 1) (c .before .before .before .wide .ensures ∙ c .before .before .before .before .index .ensures)) (c .before .before .before .before .before .before .before .before .before .before .before .pre) _ (c .before .before .over-in .ensures) _ (c .enum-told .given .1)
+returns c =
+    let overInAt = c .before .before in
+    let wideAt = overInAt .before in
+    let indexAt = wideAt .before in
+    let entry = indexAt .before .before .before .before .before .before .before in
+    let a = entry .args in
+    c .enum-told .given .1 ∙ in-inputs (bare (a .circuit) (now (a .inputs)) (now (a .states)) (now (a .nexts)) (now (a .gates)) (now (a .roots))) _
+    (ap (λ (k : ℕ). 2 * k + 1) (wideAt .wide .ensures ∙ indexAt .index .ensures)) (entry .pre) _ (overInAt .over-in .ensures) _
+    (c .enum-told .given .1)
 
 enum-told-2 : tie.Need-enum-told-2
 enum-told-2 c = c .match .keys2
@@ -39,7 +47,17 @@ enum-told-3 : tie.Need-enum-told-3
 enum-told-3 c = c .match2 .keys1
 
 returns-2 : tie.Need-returns-2
-returns-2 c = let a = c .before .before .before .before .before .before .before .before .before .before .before .before .before .before .args in c .enum-told3 .given .1 ∙ in-gates (bare (a .circuit) (now (a .inputs)) (now (a .states)) (now (a .nexts)) (now (a .gates)) (now (a .roots))) _ (ap (λ (k : ℕ). 2 * k + 1) (c .before .before .before .before .before .before .wide .ensures ∙ c .before .before .before .before .before .before .before .index .ensures)) (c .before .before .before .before .before .before .before .before .before .before .before .before .before .before .pre) _ (c .before .before .before .before .before .over-in .ensures) (c .before .before .before .enum-told2 .given .1) _ (c .before .before .over-in2 .ensures) _ (c .enum-told3 .given .1)
+returns-2 c =
+    let overIn2At = c .before .before in
+    let enumTold2At = overIn2At .before in
+    let overInAt = enumTold2At .before .before in
+    let wideAt = overInAt .before in
+    let indexAt = wideAt .before in
+    let entry = indexAt .before .before .before .before .before .before .before in
+    let a = entry .args in
+    c .enum-told3 .given .1 ∙ in-gates (bare (a .circuit) (now (a .inputs)) (now (a .states)) (now (a .nexts)) (now (a .gates)) (now (a .roots))) _
+    (ap (λ (k : ℕ). 2 * k + 1) (wideAt .wide .ensures ∙ indexAt .index .ensures)) (entry .pre) _ (overInAt .over-in .ensures)
+    (enumTold2At .enum-told2 .given .1) _ (overIn2At .over-in2 .ensures) _ (c .enum-told3 .given .1)
 
 enum-told-4 : tie.Need-enum-told-4
 enum-told-4 c = c .match2 .keys2
@@ -51,7 +69,20 @@ enum-told-5 : tie.Need-enum-told-5
 enum-told-5 c = c .match3 .keys1
 
 returns-3 : tie.Need-returns-3
-returns-3 c = let a = c .before .before .before .before .before .before .before .before .before .before .before .before .before .before .before .before .before .args in c .enum-told5 .given .1 ∙ in-latches (bare (a .circuit) (now (a .inputs)) (now (a .states)) (now (a .nexts)) (now (a .gates)) (now (a .roots))) _ (ap (λ (k : ℕ). 2 * k + 1) (c .before .before .before .before .before .before .before .before .before .wide .ensures ∙ c .before .before .before .before .before .before .before .before .before .before .index .ensures)) (c .before .before .before .before .before .before .before .before .before .before .before .before .before .before .before .before .before .pre) _ (c .before .before .before .before .before .before .before .before .over-in .ensures) (c .before .before .before .before .before .before .enum-told2 .given .1) _ (c .before .before .before .before .before .over-in2 .ensures) (c .before .before .before .enum-told4 .given .1) _ (c .before .before .over-in-latches .ensures) _ (c .enum-told5 .given .1)
+returns-3 c =
+    let overInLatchesAt = c .before .before in
+    let enumTold4At = overInLatchesAt .before in
+    let overIn2At = enumTold4At .before .before in
+    let enumTold2At = overIn2At .before in
+    let overInAt = enumTold2At .before .before in
+    let wideAt = overInAt .before in
+    let indexAt = wideAt .before in
+    let entry = indexAt .before .before .before .before .before .before .before in
+    let a = entry .args in
+    c .enum-told5 .given .1 ∙ in-latches (bare (a .circuit) (now (a .inputs)) (now (a .states)) (now (a .nexts)) (now (a .gates)) (now (a .roots))) _
+    (ap (λ (k : ℕ). 2 * k + 1) (wideAt .wide .ensures ∙ indexAt .index .ensures)) (entry .pre) _ (overInAt .over-in .ensures)
+    (enumTold2At .enum-told2 .given .1) _ (overIn2At .over-in2 .ensures) (enumTold4At .enum-told4 .given .1) _
+    (overInLatchesAt .over-in-latches .ensures) _ (c .enum-told5 .given .1)
 
 enum-told-6 : tie.Need-enum-told-6
 enum-told-6 c = c .match3 .keys2
@@ -60,7 +91,20 @@ over-in-requires-3 : tie.Need-over-in-requires-3
 over-in-requires-3 c κs = tt
 
 returns-4 : tie.Need-returns-4
-returns-4 c = let a = c .before .before .before .before .before .before .before .before .before .before .before .before .before .before .before .before .before .before .args in in-roots (bare (a .circuit) (now (a .inputs)) (now (a .states)) (now (a .nexts)) (now (a .gates)) (now (a .roots))) _ (ap (λ (k : ℕ). 2 * k + 1) (c .before .before .before .before .before .before .before .before .before .before .wide .ensures ∙ c .before .before .before .before .before .before .before .before .before .before .before .index .ensures)) (c .before .before .before .before .before .before .before .before .before .before .before .before .before .before .before .before .before .before .pre) _ (c .before .before .before .before .before .before .before .before .before .over-in .ensures) (c .before .before .before .before .before .before .before .enum-told2 .given .1) _ (c .before .before .before .before .before .before .over-in2 .ensures) (c .before .before .before .before .enum-told4 .given .1) _ (c .before .before .before .over-in-latches .ensures) (c .before .enum-told6 .given .1) _ (c .over-in3 .ensures)
+returns-4 c =
+    let overInLatchesAt = c .before .before .before in
+    let enumTold4At = overInLatchesAt .before in
+    let overIn2At = enumTold4At .before .before in
+    let enumTold2At = overIn2At .before in
+    let overInAt = enumTold2At .before .before in
+    let wideAt = overInAt .before in
+    let indexAt = wideAt .before in
+    let entry = indexAt .before .before .before .before .before .before .before in
+    let a = entry .args in
+    in-roots (bare (a .circuit) (now (a .inputs)) (now (a .states)) (now (a .nexts)) (now (a .gates)) (now (a .roots))) _
+    (ap (λ (k : ℕ). 2 * k + 1) (wideAt .wide .ensures ∙ indexAt .index .ensures)) (entry .pre) _ (overInAt .over-in .ensures)
+    (enumTold2At .enum-told2 .given .1) _ (overIn2At .over-in2 .ensures) (enumTold4At .enum-told4 .given .1) _
+    (overInLatchesAt .over-in-latches .ensures) (c .before .enum-told6 .given .1) _ (c .over-in3 .ensures)
 
 pub over-spec : {M : Type 1} → statement M
 over-spec =

@@ -31,16 +31,30 @@ from-code-requires : tie.Need-from-code-requires Inv-loop μ-loop
 from-code-requires c κs = tt
 
 returns : tie.Need-returns Inv-loop μ-loop
-returns c = over-here _ _ _ _ _ (c .before .before .before .before .loop-test .taken) (c .before .before .wide .ensures) (c .before .if1 .taken) (c .from-code .ensures) ∙ ap found (sym (c .before .before .before .before .before .loop .inv .1))
+returns c =
+    let wideAt = c .before .before in
+    let loopTestAt = wideAt .before .before in
+    let loopAt = loopTestAt .before in
+    over-here _ _ _ _ _ (loopTestAt .loop-test .taken) (wideAt .wide .ensures) (c .before .if1 .taken) (c .from-code .ensures) ∙ ap found
+    (sym (loopAt .loop .inv .1))
 
 add-i : tie.Need-add-i Inv-loop μ-loop
-add-i c = turn-fits (c .before .before .before .loop-test .taken) (c .before .before .before .before .before .before .good .0 .1)
+add-i c =
+    let loopTestAt = c .before .before .before in
+    let entry = loopTestAt .before .before .before in
+    turn-fits (loopTestAt .loop-test .taken) (entry .good .0 .1)
 
 loop-less : tie.Need-loop-less Inv-loop μ-loop
 loop-less c = turn-nearer (c .before .before .before .loop-test .taken)
 
 loop-again : tie.Need-loop-again Inv-loop μ-loop
-loop-again c = (turn-within (c .before .before .before .loop-test .taken), c .before .before .before .before .loop .inv .1 ∙ over-on _ _ _ _ (c .before .before .before .loop-test .taken) (c .before .wide .ensures) (c .if1 .left))
+loop-again c =
+    let loopTestAt = c .before .before .before in
+    let loopAt = loopTestAt .before in (
+      turn-within (loopTestAt .loop-test .taken),
+      loopAt .loop .inv .1 ∙ over-on _ _ _ _ (loopTestAt .loop-test .taken) (c .before .wide .ensures)
+          (c .if1 .left),
+    )
 
 returns-2 : tie.Need-returns-2 Inv-loop μ-loop
 returns-2 c = over-end _ _ _ (c .loop-test .left) ∙ ap found (sym (c .before .loop .inv .1))

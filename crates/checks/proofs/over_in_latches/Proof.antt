@@ -11,7 +11,8 @@ use Rattle.checks.proofs.Offenders.{turn-fits, turn-within, turn-nearer
 use Rattle.checks.specs.Checks.{found}
 
 abbrev Inv-loop : tie.InvT-loop
-Inv-loop states nexts bound i₀ i = (i ≤ length states) × (firstOver bound (latchCodes states nexts) ≡ firstOver bound (latchCodes (drop i states) (drop i nexts)))
+Inv-loop states nexts bound i₀ i =
+    (i ≤ length states) × (firstOver bound (latchCodes states nexts) ≡ firstOver bound (latchCodes (drop i states) (drop i nexts)))
 
 abbrev μ-loop : tie.MeasureT-loop
 μ-loop states nexts bound i₀ i = length states - i
@@ -20,10 +21,16 @@ loop-holds : tie.Need-loop-holds Inv-loop μ-loop
 loop-holds c = (zero≤, refl)
 
 returns : tie.Need-returns Inv-loop μ-loop
-returns c = let a = c .before .before .before .before .before .args in latch-short (a .bound) (now (a .states)) (now (a .nexts)) _ (c .before .loop-test .taken) (c .if1 .taken) ∙ ap found (sym (c .before .before .loop .inv .1))
+returns c =
+    let loopAt = c .before .before in
+    let entry = loopAt .before .before .before in
+    let a = entry .args in
+    latch-short (a .bound) (now (a .states)) (now (a .nexts)) _ (c .before .loop-test .taken) (c .if1 .taken) ∙ ap found (sym (loopAt .loop .inv .1))
 
 mul-state : tie.Need-mul-state Inv-loop μ-loop
-mul-state c = scaled-fits _ _ 4 (c .before .loop-test .taken) (c .before .before .before .before .before .good .0 .1)
+mul-state c =
+    let entry = c .before .before .before .before .before in
+    scaled-fits _ _ 4 (c .before .loop-test .taken) (entry .good .0 .1)
 
 shared-slice-read-state : tie.Need-shared-slice-read-state Inv-loop μ-loop
 shared-slice-read-state c = c .before .before .loop-test .taken
@@ -35,10 +42,21 @@ from-code-requires : tie.Need-from-code-requires Inv-loop μ-loop
 from-code-requires c κs = tt
 
 returns-2 : tie.Need-returns-2 Inv-loop μ-loop
-returns-2 c = let a = c .before .before .before .before .before .before .before .before .before .args in latch-state (a .bound) (now (a .states)) (now (a .nexts)) _ (c .before .before .before .before .before .loop-test .taken) (c .before .before .before .before .if1 .left) _ (c .before .before .wide .ensures) _ (c .before .if2 .taken) (c .from-code .ensures) ∙ ap found (sym (c .before .before .before .before .before .before .loop .inv .1))
+returns-2 c =
+    let wideAt = c .before .before in
+    let if1At = wideAt .before .before in
+    let loopTestAt = if1At .before in
+    let loopAt = loopTestAt .before in
+    let entry = loopAt .before .before .before in
+    let a = entry .args in
+    latch-state (a .bound) (now (a .states)) (now (a .nexts)) _ (loopTestAt .loop-test .taken) (if1At .if1 .left) _ (wideAt .wide .ensures) _
+    (c .before .if2 .taken) (c .from-code .ensures) ∙ ap found (sym (loopAt .loop .inv .1))
 
 mul-next : tie.Need-mul-next Inv-loop μ-loop
-mul-next c = scaled-fits _ _ 4 (c .before .before .before .if1 .left) (c .before .before .before .before .before .before .before .before .good .1 .0 .1)
+mul-next c =
+    let if1At = c .before .before .before in
+    let entry = if1At .before .before .before .before .before in
+    scaled-fits _ _ 4 (if1At .if1 .left) (entry .good .1 .0 .1)
 
 shared-slice-read-next : tie.Need-shared-slice-read-next Inv-loop μ-loop
 shared-slice-read-next c = c .before .before .before .before .if1 .left
@@ -50,21 +68,48 @@ from-code-requires-2 : tie.Need-from-code-requires-2 Inv-loop μ-loop
 from-code-requires-2 c κs = tt
 
 returns-3 : tie.Need-returns-3 Inv-loop μ-loop
-returns-3 c = let a = c .before .before .before .before .before .before .before .before .before .before .before .before .args in latch-next (a .bound) (now (a .states)) (now (a .nexts)) _ (c .before .before .before .before .before .before .before .before .loop-test .taken) (c .before .before .before .before .before .before .before .if1 .left) _ (c .before .before .before .before .before .wide .ensures) (c .before .before .before .before .if2 .left) _ (c .before .before .wide2 .ensures) _ (c .before .if3 .taken) (c .from-code2 .ensures) ∙ ap found (sym (c .before .before .before .before .before .before .before .before .before .loop .inv .1))
+returns-3 c =
+    let wide2At = c .before .before in
+    let if2At = wide2At .before .before in
+    let wideAt = if2At .before in
+    let if1At = wideAt .before .before in
+    let loopTestAt = if1At .before in
+    let loopAt = loopTestAt .before in
+    let entry = loopAt .before .before .before in
+    let a = entry .args in
+    latch-next (a .bound) (now (a .states)) (now (a .nexts)) _ (loopTestAt .loop-test .taken) (if1At .if1 .left) _ (wideAt .wide .ensures)
+    (if2At .if2 .left) _ (wide2At .wide2 .ensures) _ (c .before .if3 .taken) (c .from-code2 .ensures) ∙ ap found (sym (loopAt .loop .inv .1))
 
 add-i : tie.Need-add-i Inv-loop μ-loop
-add-i c = turn-fits (c .before .before .before .before .before .before .before .loop-test .taken) (c .before .before .before .before .before .before .before .before .before .before .before .good .0 .1)
+add-i c =
+    let loopTestAt = c .before .before .before .before .before .before .before in
+    let entry = loopTestAt .before .before .before .before in
+    turn-fits (loopTestAt .loop-test .taken) (entry .good .0 .1)
 
 loop-less : tie.Need-loop-less Inv-loop μ-loop
-loop-less c = turn-nearer (c .before .before .before .before .before .before .before .loop-test .taken)
+loop-less c =
+    let loopTestAt = c .before .before .before .before .before .before .before in
+    turn-nearer (loopTestAt .loop-test .taken)
 
 loop-again : tie.Need-loop-again Inv-loop μ-loop
 loop-again c =
-    let a = c .before .before .before .before .before .before .before .before .before .before .before .args in
-    (turn-within (c .before .before .before .before .before .before .before .loop-test .taken), c .before .before .before .before .before .before .before .before .loop .inv .1 ∙ latch-on (a .bound) (now (a .states)) (now (a .nexts)) _ (c .before .before .before .before .before .before .before .loop-test .taken) (c .before .before .before .before .before .before .if1 .left) _ (c .before .before .before .before .wide .ensures) (c .before .before .before .if2 .left) _ (c .before .wide2 .ensures) (c .if3 .left))
+    let if2At = c .before .before .before in
+    let wideAt = if2At .before in
+    let if1At = wideAt .before .before in
+    let loopTestAt = if1At .before in
+    let loopAt = loopTestAt .before in
+    let entry = loopAt .before .before .before in
+    let a = entry .args in (
+      turn-within (loopTestAt .loop-test .taken),
+      loopAt .loop .inv .1 ∙ latch-on (a .bound) (now (a .states)) (now (a .nexts)) _
+          (loopTestAt .loop-test .taken) (if1At .if1 .left) _ (wideAt .wide .ensures) (if2At .if2 .left) _ (c .before .wide2 .ensures) (c .if3 .left),
+    )
 
 returns-4 : tie.Need-returns-4 Inv-loop μ-loop
-returns-4 c = let a = c .before .before .before .before .args in latch-end (a .bound) (now (a .states)) (now (a .nexts)) _ (c .loop-test .left) ∙ ap found (sym (c .before .loop .inv .1))
+returns-4 c =
+    let entry = c .before .before .before .before in
+    let a = entry .args in
+    latch-end (a .bound) (now (a .states)) (now (a .nexts)) _ (c .loop-test .left) ∙ ap found (sym (c .before .loop .inv .1))
 
 pub over-in-latches-spec : {M : Type 1} → statement M
 over-in-latches-spec =

@@ -47,7 +47,13 @@ add-result-4 : tie.Need-add-result-4
 add-result-4 c = search needs
 
 returns : tie.Need-returns
-returns c = sums (c .before .before .before .before .before .args .t1) (c .before .before .before .before .before .good .0 .1 .0 .1) (c .before .before .before .before .count .ensures .same) (c .before .before .before .count2 .ensures .same) (c .before .before .count3 .ensures .same) (c .before .count4 .ensures .same) (c .count5 .ensures .same)
+returns c =
+    let count3At = c .before .before in
+    let count2At = count3At .before in
+    let countAt = count2At .before in
+    let entry = countAt .before in
+    sums (entry .args .t1) (entry .good .0 .1 .0 .1) (countAt .count .ensures .same) (count2At .count2 .ensures .same)
+    (count3At .count3 .ensures .same) (c .before .count4 .ensures .same) (c .count5 .ensures .same)
 
 pub sum-spec : {M : Type 1} → statement M
 sum-spec =

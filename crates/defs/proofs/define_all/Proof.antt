@@ -19,7 +19,13 @@ same-length : tie.Need-same-length
 same-length c = search needs
 
 returns : tie.Need-returns
-returns c = let a = c .before .before .before .before .before .before .before .before .before .before .before .before .before .before .before .args in all-inputs (now (a .table)) (now (a .inputs)) (now (a .states)) (gatesOf (now (a .gates))) _ (c .before .before .before .before .before .before .before .before .before .mark-constant .ensures) _ _ (c .before .before .before .before .before .define-sources .ensures) _ (c .before .again .given .1)
+returns c =
+    let defineSourcesAt = c .before .before .before .before .before in
+    let markConstantAt = defineSourcesAt .before .before .before .before in
+    let entry = markConstantAt .before .before .before .before .before .before in
+    let a = entry .args in
+    all-inputs (now (a .table)) (now (a .inputs)) (now (a .states)) (gatesOf (now (a .gates))) _ (markConstantAt .mark-constant .ensures) _ _
+    (defineSourcesAt .define-sources .ensures) _ (c .before .again .given .1)
 
 enum-told : tie.Need-enum-told
 enum-told c = c .match .keys2
@@ -34,7 +40,16 @@ same-length-2 : tie.Need-same-length-2
 same-length-2 c = search needs
 
 returns-2 : tie.Need-returns-2
-returns-2 c = let a = c .before .before .before .before .before .before .before .before .before .before .before .before .before .before .before .before .before .before .before .before .before .args in all-gates (now (a .table)) (now (a .inputs)) (now (a .states)) (gatesOf (now (a .gates))) _ (c .before .before .before .before .before .before .before .before .before .before .before .before .before .before .before .mark-constant .ensures) _ _ (c .before .before .before .before .before .before .before .before .before .before .before .define-sources .ensures) (c .before .before .before .before .before .before .before .enum-told .given .1) _ _ (c .before .before .before .before .before .define-gates .ensures) _ (c .before .again2 .given .1)
+returns-2 c =
+    let defineGatesAt = c .before .before .before .before .before in
+    let enumToldAt = defineGatesAt .before .before in
+    let defineSourcesAt = enumToldAt .before .before .before .before in
+    let markConstantAt = defineSourcesAt .before .before .before .before in
+    let entry = markConstantAt .before .before .before .before .before .before in
+    let a = entry .args in
+    all-gates (now (a .table)) (now (a .inputs)) (now (a .states)) (gatesOf (now (a .gates))) _ (markConstantAt .mark-constant .ensures) _ _
+    (defineSourcesAt .define-sources .ensures) (enumToldAt .enum-told .given .1) _ _ (defineGatesAt .define-gates .ensures) _
+    (c .before .again2 .given .1)
 
 enum-told-2 : tie.Need-enum-told-2
 enum-told-2 c = c .match2 .keys2
@@ -49,7 +64,18 @@ same-length-3 : tie.Need-same-length-3
 same-length-3 c = search needs
 
 returns-3 : tie.Need-returns-3
-returns-3 c = let a = c .before .before .before .before .before .before .before .before .before .before .before .before .before .before .before .before .before .before .before .before .before .before .before .before .before .before .before .args in all-states (now (a .table)) (now (a .inputs)) (now (a .states)) (gatesOf (now (a .gates))) _ (c .before .before .before .before .before .before .before .before .before .before .before .before .before .before .before .before .before .before .before .before .before .mark-constant .ensures) _ _ (c .before .before .before .before .before .before .before .before .before .before .before .before .before .before .before .before .before .define-sources .ensures) (c .before .before .before .before .before .before .before .before .before .before .before .before .before .enum-told .given .1) _ _ (c .before .before .before .before .before .before .before .before .before .before .before .define-gates .ensures) (c .before .before .before .before .before .before .before .enum-told2 .given .1) _ _ (c .before .before .before .before .before .define-sources2 .ensures) _ (c .before .again3 .given .1)
+returns-3 c =
+    let defineSources2At = c .before .before .before .before .before in
+    let enumTold2At = defineSources2At .before .before in
+    let defineGatesAt = enumTold2At .before .before .before .before in
+    let enumToldAt = defineGatesAt .before .before in
+    let defineSourcesAt = enumToldAt .before .before .before .before in
+    let markConstantAt = defineSourcesAt .before .before .before .before in
+    let entry = markConstantAt .before .before .before .before .before .before in
+    let a = entry .args in
+    all-states (now (a .table)) (now (a .inputs)) (now (a .states)) (gatesOf (now (a .gates))) _ (markConstantAt .mark-constant .ensures) _ _
+    (defineSourcesAt .define-sources .ensures) (enumToldAt .enum-told .given .1) _ _ (defineGatesAt .define-gates .ensures)
+    (enumTold2At .enum-told2 .given .1) _ _ (defineSources2At .define-sources2 .ensures) _ (c .before .again3 .given .1)
 
 enum-told-3 : tie.Need-enum-told-3
 enum-told-3 c = c .match3 .keys2
@@ -58,7 +84,18 @@ same-length-4 : tie.Need-same-length-4
 same-length-4 c = search needs
 
 returns-4 : tie.Need-returns-4
-returns-4 c = let a = c .before .before .before .before .before .before .before .before .before .before .before .before .before .before .before .before .before .before .before .before .before .before .before .before .before .before .args in all-once (now (a .table)) (now (a .inputs)) (now (a .states)) (gatesOf (now (a .gates))) _ (c .before .before .before .before .before .before .before .before .before .before .before .before .before .before .before .before .before .before .before .before .mark-constant .ensures) _ _ (c .before .before .before .before .before .before .before .before .before .before .before .before .before .before .before .before .define-sources .ensures) (c .before .before .before .before .before .before .before .before .before .before .before .before .enum-told .given .1) _ _ (c .before .before .before .before .before .before .before .before .before .before .define-gates .ensures) (c .before .before .before .before .before .before .enum-told2 .given .1) _ _ (c .before .before .before .before .define-sources2 .ensures) (c .enum-told3 .given .1)
+returns-4 c =
+    let defineSources2At = c .before .before .before .before in
+    let enumTold2At = defineSources2At .before .before in
+    let defineGatesAt = enumTold2At .before .before .before .before in
+    let enumToldAt = defineGatesAt .before .before in
+    let defineSourcesAt = enumToldAt .before .before .before .before in
+    let markConstantAt = defineSourcesAt .before .before .before .before in
+    let entry = markConstantAt .before .before .before .before .before .before in
+    let a = entry .args in
+    all-once (now (a .table)) (now (a .inputs)) (now (a .states)) (gatesOf (now (a .gates))) _ (markConstantAt .mark-constant .ensures) _ _
+    (defineSourcesAt .define-sources .ensures) (enumToldAt .enum-told .given .1) _ _ (defineGatesAt .define-gates .ensures)
+    (enumTold2At .enum-told2 .given .1) _ _ (defineSources2At .define-sources2 .ensures) (c .enum-told3 .given .1)
 
 pub define-all-spec : {M : Type 1} → statement M
 define-all-spec =

@@ -11,7 +11,8 @@ use Rattle.defs.proofs.Definitions.{sources-on, sources-again, sources-
 use Rattle.defs.specs.Define.{defineSources}
 
 abbrev Inv-loop : tie.InvT-loop
-Inv-loop table₀ literals i₀ table i = (i ≤ length literals) × (length table ≡ length table₀) × (defineSources table₀ literals ≡ defineSources table (drop i literals))
+Inv-loop table₀ literals i₀ table i =
+    (i ≤ length literals) × (length table ≡ length table₀) × (defineSources table₀ literals ≡ defineSources table (drop i literals))
 
 abbrev μ-loop : tie.MeasureT-loop
 μ-loop table₀ literals i₀ table i = length literals - i
@@ -20,7 +21,9 @@ loop-holds : tie.Need-loop-holds Inv-loop μ-loop
 loop-holds c = (omega arith, refl, refl)
 
 mul-from-code : tie.Need-mul-from-code Inv-loop μ-loop
-mul-from-code c = record { fits = omega (arith, c .before .loop-test .taken, c .before .before .before .before .before .good .1) }
+mul-from-code c =
+    let entry = c .before .before .before .before .before in
+    record { fits = omega (arith, c .before .loop-test .taken, entry .good .1) }
 
 shared-slice-read-from-code : tie.Need-shared-slice-read-from-code Inv-loop μ-loop
 shared-slice-read-from-code c = c .before .before .loop-test .taken
@@ -35,28 +38,58 @@ enum-known-again : tie.Need-enum-known-again Inv-loop μ-loop
 enum-known-again c = c .match .keys1
 
 same-length : tie.Need-same-length Inv-loop μ-loop
-same-length c = c .before .before .before .before .before .define .kept .0 ∙ c .before .before .before .before .before .before .before .before .before .before .loop .inv .1
+same-length c =
+    let defineAt = c .before .before .before .before .before in
+    let loopAt = defineAt .before .before .before .before .before in
+    defineAt .define .kept .0 ∙ loopAt .loop .inv .1
 
 returns : tie.Need-returns Inv-loop μ-loop
-returns c = sources-again (c .before .before .before .before .before .before .before .before .before .before .loop .table) (now (c .before .before .before .before .before .before .before .before .before .before .before .before .before .args .literals)) (c .before .before .before .before .before .define .last .0) (c .before .before .before .before .before .before .before .before .before .before .loop .i) (c .before .before .before .before .before .before .from-code .result) _ (c .before .before .before .before .before .define .result) (c .before .before .before .before .before .before .before .before .before .loop-test .taken) (c .before .before .before .before .before .before .from-code .ensures) (c .before .before .before .before .before .define .ensures) (c .before .again .given .1) ∙ sym (c .before .before .before .before .before .before .before .before .before .before .loop .inv .2)
+returns c =
+    let defineAt = c .before .before .before .before .before in
+    let fromCodeAt = defineAt .before in
+    let loopTestAt = fromCodeAt .before .before .before in
+    let loopAt = loopTestAt .before in
+    let entry = loopAt .before .before .before in
+    sources-again (loopAt .loop .table) (now (entry .args .literals)) (defineAt .define .last .0) (loopAt .loop .i) (fromCodeAt .from-code .result) _
+    (defineAt .define .result) (loopTestAt .loop-test .taken) (fromCodeAt .from-code .ensures) (defineAt .define .ensures)
+    (c .before .again .given .1) ∙ sym (loopAt .loop .inv .2)
 
 enum-told : tie.Need-enum-told Inv-loop μ-loop
 enum-told c = c .match .keys2
 
 add-i : tie.Need-add-i Inv-loop μ-loop
-add-i c = record { fits = omega (arith, c .before .before .before .before .before .before .before .before .loop-test .taken, c .before .before .before .before .before .before .before .before .before .before .before .before .good .1) }
+add-i c =
+    let loopTestAt = c .before .before .before .before .before .before .before .before in
+    let entry = loopTestAt .before .before .before .before in
+    record { fits = omega (arith, loopTestAt .loop-test .taken, entry .good .1) }
 
 loop-less : tie.Need-loop-less Inv-loop μ-loop
-loop-less c = omega (arith, c .before .before .before .before .before .before .before .before .loop-test .taken)
+loop-less c =
+    let loopTestAt = c .before .before .before .before .before .before .before .before in
+    omega (arith, loopTestAt .loop-test .taken)
 
 loop-again : tie.Need-loop-again Inv-loop μ-loop
-loop-again c = (omega (arith, c .before .before .before .before .before .before .before .before .loop-test .taken), c .before .before .before .before .define .kept .0 ∙ c .before .before .before .before .before .before .before .before .before .loop .inv .1, c .before .before .before .before .before .before .before .before .before .loop .inv .2 ∙ sources-on (c .before .before .before .before .before .before .before .before .before .loop .table) (now (c .before .before .before .before .before .before .before .before .before .before .before .before .args .literals)) (c .before .before .before .before .define .last .0) (c .before .before .before .before .before .before .before .before .before .loop .i) (c .before .before .before .before .before .from-code .result) (c .before .before .before .before .define .result) (c .before .before .before .before .before .before .before .before .loop-test .taken) (c .before .before .before .before .before .from-code .ensures) (c .before .before .before .before .define .ensures) (c .enum-told .given .1))
+loop-again c =
+    let defineAt = c .before .before .before .before in
+    let fromCodeAt = defineAt .before in
+    let loopTestAt = fromCodeAt .before .before .before in
+    let loopAt = loopTestAt .before in
+    let entry = loopAt .before .before .before in (
+      omega (arith, loopTestAt .loop-test .taken),
+      defineAt .define .kept .0 ∙ loopAt .loop .inv .1,
+      loopAt .loop .inv .2 ∙ sources-on
+          (loopAt .loop .table) (now (entry .args .literals)) (defineAt .define .last .0) (loopAt .loop .i) (fromCodeAt .from-code .result)
+          (defineAt .define .result) (loopTestAt .loop-test .taken) (fromCodeAt .from-code .ensures) (defineAt .define .ensures) (c .enum-told .given .1),
+    )
 
 same-length-2 : tie.Need-same-length-2 Inv-loop μ-loop
 same-length-2 c = c .before .loop .inv .1
 
 returns-2 : tie.Need-returns-2 Inv-loop μ-loop
-returns-2 c = sources-end (c .before .loop .table) (now (c .before .before .before .before .args .literals)) (c .before .loop .i) (c .loop-test .left) ∙ sym (c .before .loop .inv .2)
+returns-2 c =
+    let loopAt = c .before in
+    let entry = loopAt .before .before .before in
+    sources-end (loopAt .loop .table) (now (entry .args .literals)) (loopAt .loop .i) (c .loop-test .left) ∙ sym (loopAt .loop .inv .2)
 
 pub define-sources-spec : {M : Type 1} → statement M
 define-sources-spec =

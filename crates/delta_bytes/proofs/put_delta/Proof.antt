@@ -18,8 +18,11 @@ enum-known-value c = c .match .keys1
 
 put-value-requires : tie.Need-put-value-requires
 put-value-requires c κs =
-    let a = c .before .before .before .before .before .before .before .before .args in
-    let e = sym (c .before .before .before .before .delta-code .ensures) ∙ c .before .before .value .given .1 in
+    let valueAt = c .before .before in
+    let deltaCodeAt = valueAt .before .before in
+    let entry = deltaCodeAt .before .before .before .before in
+    let a = entry .args in
+    let e = sym (deltaCodeAt .delta-code .ensures) ∙ valueAt .value .given .1 in
     (search needs, omega (arith, delta-used (a .s .now) (a .at) (a .reference) _ _ e))
 
 enum-known-why : tie.Need-enum-known-why
@@ -33,14 +36,21 @@ same-length c = search needs
 
 returns-2 : tie.Need-returns-2
 returns-2 c =
-    let e = sym (c .before .before .before .before .before .before .before .delta-code .ensures) ∙ c .before .before .before .before .before .value .given .1 in
-    let d = entry-value _ _ _ _ _ _ (c .before .before .before .before .before .before .before .before .if1 .left) e in
-    (d .0, c .before .before .put-value .ensures ∙ d .1)
+    let putValueAt = c .before .before in
+    let valueAt = putValueAt .before .before .before in
+    let deltaCodeAt = valueAt .before .before in
+    let if1At = deltaCodeAt .before in
+    let e = sym (deltaCodeAt .delta-code .ensures) ∙ valueAt .value .given .1 in
+    let d = entry-value _ _ _ _ _ _ (if1At .if1 .left) e in
+    (d .0, putValueAt .put-value .ensures ∙ d .1)
 
 returns-3 : tie.Need-returns-3
 returns-3 c =
-    let e = sym (c .before .before .before .before .delta-code .ensures) ∙ c .before .before .why .given .1 in
-    let d = entry-refused _ _ _ _ _ _ (c .before .before .before .before .before .if1 .left) e in
+    let whyAt = c .before .before in
+    let deltaCodeAt = whyAt .before .before in
+    let if1At = deltaCodeAt .before in
+    let e = sym (deltaCodeAt .delta-code .ensures) ∙ whyAt .why .given .1 in
+    let d = entry-refused _ _ _ _ _ _ (if1At .if1 .left) e in
     (c .number .ensures ∙ d .0, d .1)
 
 pub put-delta-spec : {M : Type 1} → statement M

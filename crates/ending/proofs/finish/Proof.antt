@@ -12,16 +12,25 @@ fill-front-requires : tie.Need-fill-front-requires
 fill-front-requires c κs = tt
 
 same-length : tie.Need-same-length
-same-length c = c .before .before .before .before .before .before .before .before .before .before .images .kept .1 .1 .0
+same-length c =
+    let imagesAt = c .before .before .before .before .before .before .before .before .before .before in
+    let imagesOutKept = imagesAt .images .kept .1 .1 .0 in
+    imagesOutKept
 
 same-length-2 : tie.Need-same-length-2
-same-length-2 c = c .before .before .before .before .before .before .images2 .kept .1 .1 .0
+same-length-2 c =
+    let images2At = c .before .before .before .before .before .before in
+    images2At .images2 .kept .1 .1 .0
 
 same-length-3 : tie.Need-same-length-3
 same-length-3 c = c .before .before .fill-front .kept .0
 
 returns : tie.Need-returns
-returns c = record { nextsOver = c .before .before .before .before .before .before .before .before .before .before .images .ensures; rootsOver = c .before .before .before .before .before .before .images2 .ensures; clear = c .before .before .fill-front .ensures }
+returns c =
+    let fillFrontAt = c .before .before in
+    let images2At = fillFrontAt .before .before .before .before in
+    let imagesAt = images2At .before .before .before .before in
+    record { nextsOver = imagesAt .images .ensures; rootsOver = images2At .images2 .ensures; clear = fillFrontAt .fill-front .ensures }
 
 pub finish-spec : {M : Type 1} → statement M
 finish-spec =

@@ -20,7 +20,12 @@ from-index-requires : tie.Need-from-index-requires
 from-index-requires c κs = tt
 
 returns : tie.Need-returns
-returns c = made-with (c .before .before .before .before .args .sources) (c .before .before .before .before .args .made) _ _ _ _ (c .before .before .before .low .ensures) (c .before .before .wide .ensures) (c .before .low2 .ensures) (c .from-index .ensures)
+returns c =
+    let wideAt = c .before .before in
+    let lowAt = wideAt .before in
+    let entry = lowAt .before in
+    let a = entry .args in
+    made-with (a .sources) (a .made) _ _ _ _ (lowAt .low .ensures) (wideAt .wide .ensures) (c .before .low2 .ensures) (c .from-index .ensures)
 
 pub renumbered-spec : {M : Type 1} → statement M
 renumbered-spec =

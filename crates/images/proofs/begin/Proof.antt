@@ -8,10 +8,16 @@ use Rattle.lent.proofs.Entries.{begun}
 use Rattle.images.proofs.Few.{many-inputs, many-states, few}
 
 returns : tie.Need-returns
-returns c = many-inputs (now (c .before .before .before .before .args .map)) (now (c .before .before .before .before .args .inputs)) (now (c .before .before .before .before .args .states)) (c .if1 .taken)
+returns c =
+    let entry = c .before .before .before .before in
+    let a = entry .args in
+    many-inputs (now (a .map)) (now (a .inputs)) (now (a .states)) (c .if1 .taken)
 
 returns-2 : tie.Need-returns-2
-returns-2 c = many-states (now (c .before .before .before .before .before .args .map)) (now (c .before .before .before .before .before .args .inputs)) (now (c .before .before .before .before .before .args .states)) (c .before .if1 .left) (c .if2 .taken)
+returns-2 c =
+    let entry = c .before .before .before .before .before in
+    let a = entry .args in
+    many-states (now (a .map)) (now (a .inputs)) (now (a .states)) (c .before .if1 .left) (c .if2 .taken)
 
 fill-requires : tie.Need-fill-requires
 fill-requires c κs = tt
@@ -26,27 +32,54 @@ insert-requires : tie.Need-insert-requires
 insert-requires c κs = tt
 
 store-from-requires : tie.Need-store-from-requires
-store-from-requires c κs = omega (arith, c .before .before .before .before .before .before .before .before .before .before .before .before .if1 .left)
+store-from-requires c κs =
+    let if1At = c .before .before .before .before .before .before .before .before .before .before .before .before in
+    omega (arith, if1At .if1 .left)
 
 mul-store-from : tie.Need-mul-store-from
-mul-store-from c = record { fits = omega (arith, c .before .before .before .before .before .before .before .before .before .before .before .before .before .before .before .before .if1 .left) }
+mul-store-from c =
+    let if1At = c .before .before .before .before .before .before .before .before .before .before .before .before .before .before .before .before in
+    record { fits = omega (arith, if1At .if1 .left) }
 
 add-store-from : tie.Need-add-store-from
-add-store-from c = record { fits = omega (arith, c .before .before .before .before .before .before .before .before .before .before .before .before .before .before .before .before .if1 .left) }
+add-store-from c =
+    let if1At = c .before .before .before .before .before .before .before .before .before .before .before .before .before .before .before .before in
+    record { fits = omega (arith, if1At .if1 .left) }
 
 cast-store-from : tie.Need-cast-store-from
-cast-store-from c = record { fits = omega (arith, c .before .before .before .before .before .before .before .before .before .before .before .before .before .before .before .before .if1 .left) }
+cast-store-from c =
+    let if1At = c .before .before .before .before .before .before .before .before .before .before .before .before .before .before .before .before in
+    record { fits = omega (arith, if1At .if1 .left) }
 
 store-from-requires-2 : tie.Need-store-from-requires-2
-store-from-requires-2 c κs = omega (arith, c .before .before .before .before .before .before .before .before .before .before .before .before .before .before .before .before .if1 .left, c .before .before .before .before .before .before .before .before .before .before .before .before .before .before .before .if2 .left)
+store-from-requires-2 c κs =
+    let if2At = c .before .before .before .before .before .before .before .before .before .before .before .before .before .before .before in
+    let if1At = if2At .before in
+    omega (arith, if1At .if1 .left, if2At .if2 .left)
 
 same-length : tie.Need-same-length
-same-length c = c .before .before .store-from2 .kept .0 ∙ c .before .before .before .before .before .before .store-from .kept .0 ∙ c .before .before .before .before .before .before .before .before .before .before .insert .kept .0 ∙ c .before .before .before .before .before .before .before .before .before .before .before .before .before .before .before .before .fill .kept .0
+same-length c =
+    let storeFrom2At = c .before .before in
+    let storeFromAt = storeFrom2At .before .before .before .before in
+    let insertAt = storeFromAt .before .before .before .before in
+    let fillAt = insertAt .before .before .before .before .before .before in
+    storeFrom2At .store-from2 .kept .0 ∙ storeFromAt .store-from .kept .0 ∙ insertAt .insert .kept .0 ∙ fillAt .fill .kept .0
 
 returns-3 : tie.Need-returns-3
 returns-3 c =
-    begun (now (c .before .before .before .before .before .before .before .before .before .before .before .before .before .before .before .before .before .before .before .before .before .before .before .args .map)) (now (c .before .before .before .before .before .before .before .before .before .before .before .before .before .before .before .before .before .before .before .before .before .before .before .args .inputs)) (now (c .before .before .before .before .before .before .before .before .before .before .before .before .before .before .before .before .before .before .before .before .before .before .before .args .states)) _ _ _ _ _ _ _ (c .before .before .before .before .before .before .before .before .before .before .before .before .before .before .before .before .fill .ensures) (c .before .before .before .before .before .before .before .before .before .before .before .before .from-code .ensures) (c .before .before .before .before .before .before .before .before .before .before .before .from-code2 .ensures) (c .before .before .before .before .before .before .before .before .before .before .insert .ensures) (c .before .before .before .before .before .before .store-from .ensures) refl (c .before .before .store-from2 .ensures)
-    ∙ few (now (c .before .before .before .before .before .before .before .before .before .before .before .before .before .before .before .before .before .before .before .before .before .before .before .args .map)) (now (c .before .before .before .before .before .before .before .before .before .before .before .before .before .before .before .before .before .before .before .before .before .before .before .args .inputs)) (now (c .before .before .before .before .before .before .before .before .before .before .before .before .before .before .before .before .before .before .before .before .before .before .before .args .states)) (c .before .before .before .before .before .before .before .before .before .before .before .before .before .before .before .before .before .before .before .if1 .left) (c .before .before .before .before .before .before .before .before .before .before .before .before .before .before .before .before .before .before .if2 .left)
+    let storeFrom2At = c .before .before in
+    let storeFromAt = storeFrom2At .before .before .before .before in
+    let insertAt = storeFromAt .before .before .before .before in
+    let fromCode2At = insertAt .before in
+    let fromCodeAt = fromCode2At .before in
+    let fillAt = fromCodeAt .before .before .before .before in
+    let if2At = fillAt .before .before in
+    let if1At = if2At .before in
+    let entry = if1At .before .before .before .before in
+    let a = entry .args in
+    begun (now (a .map)) (now (a .inputs)) (now (a .states)) _ _ _ _ _ _ _ (fillAt .fill .ensures) (fromCodeAt .from-code .ensures)
+    (fromCode2At .from-code2 .ensures) (insertAt .insert .ensures) (storeFromAt .store-from .ensures) refl (storeFrom2At .store-from2 .ensures) ∙ few
+    (now (a .map)) (now (a .inputs)) (now (a .states)) (if1At .if1 .left) (if2At .if2 .left)
 
 pub begin-spec : {M : Type 1} → statement M
 begin-spec =

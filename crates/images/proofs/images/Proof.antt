@@ -11,7 +11,8 @@ use Rattle.lent.proofs.Rows.{over-all, over-full}
 use Rattle.lent.proofs.Entries.{images-length, images-more}
 
 abbrev Inv-loop : tie.InvT-loop
-Inv-loop map literals out₀ i₀ out i = (i ≤ length literals) × (i ≤ length out₀) × (length out ≡ length out₀) × (out ≡ take i (imagesIn map literals) ++ drop i out₀)
+Inv-loop map literals out₀ i₀ out i =
+    (i ≤ length literals) × (i ≤ length out₀) × (length out ≡ length out₀) × (out ≡ take i (imagesIn map literals) ++ drop i out₀)
 
 abbrev μ-loop : tie.MeasureT-loop
 μ-loop map literals out₀ i₀ out i = length literals - i
@@ -24,11 +25,17 @@ same-length c = c .before .before .loop .inv .2
 
 returns : tie.Need-returns Inv-loop μ-loop
 returns c =
-    let v = c .before .before .loop .inv in
-    v .3 ∙ over-full (imagesIn _ _) _ _ (omega (arith, v .0, images-length (c .before .before .before .before .before .before .args .map .now) (c .before .before .before .before .before .before .args .literals .now))) (v .1) (omega (arith, v .2, c .if1 .taken))
+    let loopAt = c .before .before in
+    let entry = loopAt .before .before .before .before in
+    let a = entry .args in
+    let v = loopAt .loop .inv in
+    v .3 ∙ over-full (imagesIn _ _) _ _ (omega (arith, v .0, images-length (a .map .now) (a .literals .now))) (v .1)
+    (omega (arith, v .2, c .if1 .taken))
 
 mul-from-code : tie.Need-mul-from-code Inv-loop μ-loop
-mul-from-code c = record { fits = omega (arith, c .before .loop-test .taken, c .before .before .before .before .before .before .good .1) }
+mul-from-code c =
+    let entry = c .before .before .before .before .before .before in
+    record { fits = omega (arith, c .before .loop-test .taken, entry .good .1) }
 
 shared-slice-read-from-code : tie.Need-shared-slice-read-from-code Inv-loop μ-loop
 shared-slice-read-from-code c = c .before .before .loop-test .taken
@@ -43,24 +50,38 @@ code-of-requires : tie.Need-code-of-requires Inv-loop μ-loop
 code-of-requires c κs = tt
 
 mul-out : tie.Need-mul-out Inv-loop μ-loop
-mul-out c = record { fits = omega (arith, c .before .before .before .before .before .loop-test .taken, c .before .before .before .before .before .before .before .before .before .before .good .1) }
+mul-out c =
+    let loopTestAt = c .before .before .before .before .before in
+    let entry = loopTestAt .before .before .before .before .before in
+    record { fits = omega (arith, loopTestAt .loop-test .taken, entry .good .1) }
 
 slice-write-out : tie.Need-slice-write-out Inv-loop μ-loop
 slice-write-out c = c .before .before .before .before .if1 .left
 
 add-i : tie.Need-add-i Inv-loop μ-loop
-add-i c = record { fits = omega (arith, c .before .before .before .before .before .loop-test .taken, c .before .before .before .before .before .before .before .before .before .before .good .1) }
+add-i c =
+    let loopTestAt = c .before .before .before .before .before in
+    let entry = loopTestAt .before .before .before .before .before in
+    record { fits = omega (arith, loopTestAt .loop-test .taken, entry .good .1) }
 
 loop-less : tie.Need-loop-less Inv-loop μ-loop
-loop-less c = omega (arith, c .before .before .before .before .before .loop-test .taken)
+loop-less c =
+    let loopTestAt = c .before .before .before .before .before in
+    omega (arith, loopTestAt .loop-test .taken)
 
 loop-again : tie.Need-loop-again Inv-loop μ-loop
 loop-again c =
-    let v = c .before .before .before .before .before .before .loop .inv in (
-      omega (arith, c .before .before .before .before .before .loop-test .taken),
-      omega (arith, c .before .before .before .before .if1 .left, v .2),
-      length-set (c .before .before .before .before .before .before .loop .out) (c .before .before .before .before .before .before .loop .i) (c .code-of .result) ∙ v .2,
-      images-more _ _ _ _ _ _ _ _ (c .before .before .before .before .before .loop-test .taken) (omega (arith, c .before .before .before .before .if1 .left, v .2)) (v .3) (c .code-of .ensures) (c .before .image .ensures) (c .before .before .from-code .ensures),
+    let fromCodeAt = c .before .before in
+    let if1At = fromCodeAt .before .before in
+    let loopTestAt = if1At .before in
+    let loopAt = loopTestAt .before in
+    let v = loopAt .loop .inv in (
+      omega (arith, loopTestAt .loop-test .taken),
+      omega (arith, if1At .if1 .left, v .2),
+      length-set (loopAt .loop .out) (loopAt .loop .i)
+          (c .code-of .result) ∙ v .2,
+      images-more _ _ _ _ _ _ _ _ (loopTestAt .loop-test .taken) (omega (arith, if1At .if1 .left, v .2)) (v .3)
+          (c .code-of .ensures) (c .before .image .ensures) (fromCodeAt .from-code .ensures),
     )
 
 same-length-2 : tie.Need-same-length-2 Inv-loop μ-loop
@@ -68,8 +89,11 @@ same-length-2 c = c .before .loop .inv .2
 
 returns-2 : tie.Need-returns-2 Inv-loop μ-loop
 returns-2 c =
+    let entry = c .before .before .before .before .before in
+    let a = entry .args in
     let v = c .before .loop .inv in
-    v .3 ∙ over-all (imagesIn _ _) _ _ (omega (arith, v .0, images-length (c .before .before .before .before .before .args .map .now) (c .before .before .before .before .before .args .literals .now))) (omega (arith, c .loop-test .left, images-length (c .before .before .before .before .before .args .map .now) (c .before .before .before .before .before .args .literals .now))) (v .1)
+    v .3 ∙ over-all (imagesIn _ _) _ _ (omega (arith, v .0, images-length (a .map .now) (a .literals .now)))
+    (omega (arith, c .loop-test .left, images-length (a .map .now) (a .literals .now))) (v .1)
 
 pub images-spec : {M : Type 1} → statement M
 images-spec =

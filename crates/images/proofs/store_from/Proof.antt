@@ -9,7 +9,9 @@ use Rattle.circuit.specs.Circuit.{storeFrom}
 use Rattle.lent.proofs.Entries.{storeFrom-on, storeFrom-end}
 
 abbrev Inv-loop : tie.InvT-loop
-Inv-loop map₀ literals first i₀ code₀ map i code = (i ≤ length literals) × (code ≡ first + 2 * i) × (length map ≡ length map₀) × (storeFrom map₀ first literals ≡ storeFrom map code (drop i literals))
+Inv-loop map₀ literals first i₀ code₀ map i code =
+    (i ≤ length literals) × (code ≡ first + 2 * i) × (length map ≡ length map₀)
+    × (storeFrom map₀ first literals ≡ storeFrom map code (drop i literals))
 
 abbrev μ-loop : tie.MeasureT-loop
 μ-loop map₀ literals first i₀ code₀ map i code = length literals - i
@@ -18,7 +20,9 @@ loop-holds : tie.Need-loop-holds Inv-loop μ-loop
 loop-holds c = (omega arith, omega arith, refl, refl)
 
 mul-from-code : tie.Need-mul-from-code Inv-loop μ-loop
-mul-from-code c = record { fits = omega (arith, c .before .loop-test .taken, c .before .before .before .before .before .pre) }
+mul-from-code c =
+    let entry = c .before .before .before .before .before in
+    record { fits = omega (arith, c .before .loop-test .taken, entry .pre) }
 
 shared-slice-read-from-code : tie.Need-shared-slice-read-from-code Inv-loop μ-loop
 shared-slice-read-from-code c = c .before .before .loop-test .taken
@@ -33,16 +37,36 @@ insert-requires : tie.Need-insert-requires Inv-loop μ-loop
 insert-requires c κs = tt
 
 add-i : tie.Need-add-i Inv-loop μ-loop
-add-i c = record { fits = omega (arith, c .before .before .before .before .before .before .before .loop-test .taken, c .before .before .before .before .before .before .before .before .before .before .before .pre) }
+add-i c =
+    let loopTestAt = c .before .before .before .before .before .before .before in
+    let entry = loopTestAt .before .before .before .before in
+    record { fits = omega (arith, loopTestAt .loop-test .taken, entry .pre) }
 
 add-code : tie.Need-add-code Inv-loop μ-loop
-add-code c = record { fits = omega (arith, c .before .before .before .before .before .before .before .loop-test .taken, c .before .before .before .before .before .before .before .before .loop .inv .1, c .before .before .before .before .before .before .before .before .before .before .before .pre) }
+add-code c =
+    let loopTestAt = c .before .before .before .before .before .before .before in
+    let loopAt = loopTestAt .before in
+    let entry = loopAt .before .before .before in
+    record { fits = omega (arith, loopTestAt .loop-test .taken, loopAt .loop .inv .1, entry .pre) }
 
 loop-less : tie.Need-loop-less Inv-loop μ-loop
-loop-less c = omega (arith, c .before .before .before .before .before .before .before .loop-test .taken)
+loop-less c =
+    let loopTestAt = c .before .before .before .before .before .before .before in
+    omega (arith, loopTestAt .loop-test .taken)
 
 loop-again : tie.Need-loop-again Inv-loop μ-loop
-loop-again c = (omega (arith, c .before .before .before .before .before .before .before .loop-test .taken), omega (arith, c .before .before .before .before .before .before .before .before .loop .inv .1), c .before .before .insert .kept .0 ∙ c .before .before .before .before .before .before .before .before .loop .inv .2, c .before .before .before .before .before .before .before .before .loop .inv .3 ∙ storeFrom-on _ _ _ _ _ _ _ (c .before .before .before .before .before .before .before .loop-test .taken) (c .before .before .before .before .from-code .ensures) (c .before .before .before .from-code2 .ensures) (c .before .before .insert .ensures))
+loop-again c =
+    let insertAt = c .before .before in
+    let fromCode2At = insertAt .before in
+    let fromCodeAt = fromCode2At .before in
+    let loopTestAt = fromCodeAt .before .before .before in
+    let loopAt = loopTestAt .before in (
+      omega (arith, loopTestAt .loop-test .taken),
+      omega (arith, loopAt .loop .inv .1),
+      insertAt .insert .kept .0 ∙ loopAt .loop .inv .2,
+      loopAt .loop .inv .3 ∙ storeFrom-on _ _ _ _ _ _ _ (loopTestAt .loop-test .taken) (fromCodeAt .from-code .ensures)
+          (fromCode2At .from-code2 .ensures) (insertAt .insert .ensures),
+    )
 
 same-length : tie.Need-same-length Inv-loop μ-loop
 same-length c = c .before .loop .inv .2

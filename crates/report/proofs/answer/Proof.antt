@@ -31,8 +31,10 @@ front text bytes r is room counted =
 
 returns : tie.Need-returns
 returns c =
-    let report = c .before .before .report in
-    let start = c .before .before .before .before .before .before .before in
+    let reportAt = c .before .before in
+    let placeAt = reportAt .before .before .before .before .before in
+    let report = reportAt .report in
+    let start = placeAt in
     let read : List ℕ = take (start .args .n) (now (start .args .sheet)) in
     let is = ap (take (length (reportOf read))) (report .ensures .0) ∙ whole read (now (start .args .out)) (start .pre .1) in
     front (reportOf read) (report .last .1 .0) (report .result) is (omega (arith, report .kept .1 .0, fits read, start .pre .1)) (report .ensures .1)

@@ -39,9 +39,12 @@ slice-aggregate-answer-2 c = search needs
 
 answer-requires : tie.Need-answer-requires
 answer-requires c κs =
-    let read = c .before .before .before .before .before .before .before .read in
-    let n = c .before .before .before .before .n in
-    (subst (λ (i : Input). Within i (read .last .0)) (n .given .1) (read .ensures), omega (arith, c .before .before .report-room .ensures))
+    let reportRoomAt = c .before .before in
+    let nAt = reportRoomAt .before .before in
+    let readAt = nAt .before .before .before in
+    let read = readAt .read in
+    let n = nAt .n in
+    (subst (λ (i : Input). Within i (read .last .0)) (n .given .1) (read .ensures), omega (arith, reportRoomAt .report-room .ensures))
 
 array-share-prefix-out : tie.Need-array-share-prefix-out
 array-share-prefix-out c = search needs

@@ -51,7 +51,23 @@ same-length c = search needs
 
 returns : tie.Need-returns
 unfolding orderedText
-returns c = put-then (omega (arith, c .before .before .before .before .before .before .before .before .before .before .before .before .before .before .before .before .before .before .before .before .before .before .before .before .before .before .good)) (put-same (c .before .before .before .before .before .before .before .before .before .before .before .before .before .before .before .put-ordered .ensures) (ordered-line-same _ _ _ _ (c .before .before .before .before .before .before .before .before .before .before .before .before .before .before .before .before .before .before .wide .ensures ∙ c .before .before .before .before .before .before .before .before .before .before .before .before .before .before .before .before .before .before .before .index .ensures) (c .before .before .before .before .before .before .before .before .before .before .before .before .before .before .before .before .before .wide2 .ensures) (c .before .before .before .before .before .before .before .before .before .before .before .before .before .before .before .before .wide3 .ensures))) (λ s. put-then s (put-same (c .before .before .before .before .before .before .before .before .before .before .put-gates .ensures) (gate-lines-same (now (c .before .before .before .before .before .before .before .before .before .before .before .before .before .before .before .before .before .before .before .before .before .before .before .before .before .before .args .gates)) (c .before .before .before .before .before .before .before .before .before .before .before .before .wide4 .result) (length (now (c .before .before .before .before .before .before .before .before .before .before .before .before .before .before .before .before .before .before .before .before .before .before .before .before .before .before .args .nexts))) (c .before .before .before .before .before .before .before .before .before .before .before .before .wide4 .ensures))) (λ t. put-then t (c .before .before .before .before .before .before .put-images .ensures) (λ _. c .before .before .put-images2 .ensures)))
+returns c =
+    let putImages2At = c .before .before in
+    let putImagesAt = putImages2At .before .before .before .before in
+    let putGatesAt = putImagesAt .before .before .before .before in
+    let wide4At = putGatesAt .before .before in
+    let putOrderedAt = wide4At .before .before .before in
+    let wide3At = putOrderedAt .before in
+    let wide2At = wide3At .before in
+    let wideAt = wide2At .before in
+    let indexAt = wideAt .before in
+    let entry = indexAt .before .before .before .before .before .before .before in
+    let a = entry .args in
+    put-then (omega (arith, entry .good)) (put-same (putOrderedAt .put-ordered .ensures)
+    (ordered-line-same _ _ _ _ (wideAt .wide .ensures ∙ indexAt .index .ensures) (wide2At .wide2 .ensures) (wide3At .wide3 .ensures)))
+    (λ s. put-then s (put-same (putGatesAt .put-gates .ensures)
+    (gate-lines-same (now (a .gates)) (wide4At .wide4 .result) (length (now (a .nexts))) (wide4At .wide4 .ensures)))
+    (λ t. put-then t (putImagesAt .put-images .ensures) (λ _. putImages2At .put-images2 .ensures)))
 
 pub print-ordered-spec : {M : Type 1} → statement M
 print-ordered-spec =

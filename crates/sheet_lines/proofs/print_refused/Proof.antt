@@ -29,7 +29,18 @@ same-length : tie.Need-same-length
 same-length c = search needs
 
 returns : tie.Need-returns
-returns c = put-same (c .before .before .put-refused .ensures) (refused-literal (c .before .before .before .before .before .before .before .before .before .before .before .args .why) _ _ _ (c .before .before .before .before .before .wide .ensures) (c .before .before .before .wide2 .ensures ∙ c .before .before .before .before .code .ensures ∙ ap (λ (l : Lit). l .0) (c .before .before .before .before .before .before .before .literal .ensures)) (c .before .before .before .before .before .before .before .before .if1 .taken) (c .before .before .before .before .before .before .before .before .before .number .ensures))
+returns c =
+    let putRefusedAt = c .before .before in
+    let wide2At = putRefusedAt .before in
+    let codeAt = wide2At .before in
+    let wideAt = codeAt .before in
+    let literalAt = wideAt .before .before in
+    let if1At = literalAt .before in
+    let numberAt = if1At .before in
+    let entry = numberAt .before .before in
+    put-same (putRefusedAt .put-refused .ensures) (refused-literal (entry .args .why) _ _ _ (wideAt .wide .ensures)
+    (wide2At .wide2 .ensures ∙ codeAt .code .ensures ∙ ap (λ (l : Lit). l .0) (literalAt .literal .ensures)) (if1At .if1 .taken)
+    (numberAt .number .ensures))
 
 wide-requires-3 : tie.Need-wide-requires-3
 wide-requires-3 c κs = tt
@@ -41,7 +52,14 @@ same-length-2 : tie.Need-same-length-2
 same-length-2 c = search needs
 
 returns-2 : tie.Need-returns-2
-returns-2 c = put-same (c .before .before .put-refused2 .ensures) (refused-plain (c .before .before .before .before .before .before .before .before .args .why) _ _ (c .before .before .before .wide3 .ensures) (c .before .before .before .before .before .if1 .left) (c .before .before .before .before .before .before .number .ensures))
+returns-2 c =
+    let putRefused2At = c .before .before in
+    let wide3At = putRefused2At .before in
+    let if1At = wide3At .before .before in
+    let numberAt = if1At .before in
+    let entry = numberAt .before .before in
+    put-same (putRefused2At .put-refused2 .ensures) (refused-plain (entry .args .why) _ _ (wide3At .wide3 .ensures) (if1At .if1 .left)
+    (numberAt .number .ensures))
 
 pub print-refused-spec : {M : Type 1} → statement M
 print-refused-spec =

@@ -20,7 +20,12 @@ same-length c = search needs
 
 returns : tie.Need-returns
 unfolding gateLine
-returns c = put-then (omega arith) (c .before .before .before .before .before .before .before .before .before .before .put-number .ensures) (λ s. put-then s (c .before .before .before .before .before .before .put-number2 .ensures) (λ _. c .before .before .put-number3 .ensures))
+returns c =
+    let putNumber3At = c .before .before in
+    let putNumber2At = putNumber3At .before .before .before .before in
+    let putNumberAt = putNumber2At .before .before .before .before in
+    put-then (omega arith) (putNumberAt .put-number .ensures)
+    (λ s. put-then s (putNumber2At .put-number2 .ensures) (λ _. putNumber3At .put-number3 .ensures))
 
 pub put-gate-spec : {M : Type 1} → statement M
 put-gate-spec =

@@ -63,13 +63,25 @@ loop-less : tie.Need-loop-less Inv-loop μ-loop
 loop-less c = search needs
 
 loop-again : tie.Need-loop-again Inv-loop μ-loop
-loop-again c = listing-more (c .before .before .before .before .before .before .before .before .before .loop .inv) noGate (omega arith) (omega (arith, made-length (c .before .before .before .before .before .before .before .before .before .before .before .before .args .first) (now (c .before .before .before .before .before .before .before .before .before .before .before .before .args .gates)))) (made-line (c .before .before .before .before .before .before .before .before .before .before .before .before .args .first) (now (c .before .before .before .before .before .before .before .before .before .before .before .before .args .gates)) (c .before .before .before .before .before .before .before .before .before .loop .j) _ _ _ (omega arith) refl (c .before .before .before .before .before .before .wide .ensures) (c .before .before .before .before .wide2 .ensures)) (c .before .before .put-gate .ensures)
+loop-again c =
+    let putGateAt = c .before .before in
+    let wide2At = putGateAt .before .before in
+    let wideAt = wide2At .before .before in
+    let loopAt = wideAt .before .before .before in
+    let entry = loopAt .before .before .before in
+    let a = entry .args in
+    listing-more (loopAt .loop .inv) noGate (omega arith) (omega (arith, made-length (a .first) (now (a .gates))))
+    (made-line (a .first) (now (a .gates)) (loopAt .loop .j) _ _ _ (omega arith) refl (wideAt .wide .ensures) (wide2At .wide2 .ensures))
+    (putGateAt .put-gate .ensures)
 
 same-length : tie.Need-same-length Inv-loop μ-loop
 same-length c = listing-keeps (c .before .loop .inv)
 
 returns : tie.Need-returns Inv-loop μ-loop
-returns c = listing-all (c .before .loop .inv) (omega (arith, made-length (c .before .before .before .before .args .first) (now (c .before .before .before .before .args .gates))))
+returns c =
+    let entry = c .before .before .before .before in
+    let a = entry .args in
+    listing-all (c .before .loop .inv) (omega (arith, made-length (a .first) (now (a .gates))))
 
 pub put-gates-spec : {M : Type 1} → statement M
 put-gates-spec =

@@ -20,7 +20,13 @@ same-length c = search needs
 
 returns : tie.Need-returns
 unfolding imageLine
-returns c = put-then (omega arith) (put-byte (c .before .before .before .before .before .before .before .before .before .before .before .before .before .args .letter) (c .before .before .before .before .before .before .before .before .before .before .put .ensures)) (λ s. put-then s (put-byte 32 (c .before .before .before .before .before .before .put2 .ensures)) (λ _. c .before .before .put-number .ensures))
+returns c =
+    let putNumberAt = c .before .before in
+    let put2At = putNumberAt .before .before .before .before in
+    let putAt = put2At .before .before .before .before in
+    let entry = putAt .before .before .before in
+    put-then (omega arith) (put-byte (entry .args .letter) (putAt .put .ensures))
+    (λ s. put-then s (put-byte 32 (put2At .put2 .ensures)) (λ _. putNumberAt .put-number .ensures))
 
 pub put-image-spec : {M : Type 1} → statement M
 put-image-spec =

@@ -37,7 +37,13 @@ loop-less : tie.Need-loop-less Inv-loop μ-loop
 loop-less c = search needs
 
 loop-again : tie.Need-loop-again Inv-loop μ-loop
-loop-again c = listing-more (c .before .before .before .before .before .before .before .loop .inv) 0 (omega arith) (omega arith) (ap (imageLine (c .before .before .before .before .before .before .before .before .before .before .args .letter)) (c .before .before .before .before .wide .ensures)) (c .before .before .put-image .ensures)
+loop-again c =
+    let putImageAt = c .before .before in
+    let wideAt = putImageAt .before .before in
+    let loopAt = wideAt .before .before .before in
+    let entry = loopAt .before .before .before in
+    listing-more (loopAt .loop .inv) 0 (omega arith) (omega arith) (ap (imageLine (entry .args .letter)) (wideAt .wide .ensures))
+    (putImageAt .put-image .ensures)
 
 same-length : tie.Need-same-length Inv-loop μ-loop
 same-length c = listing-keeps (c .before .loop .inv)

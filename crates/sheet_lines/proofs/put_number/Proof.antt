@@ -16,7 +16,12 @@ same-length : tie.Need-same-length
 same-length c = search needs
 
 returns : tie.Need-returns
-returns c = put-then (omega arith) (put-bytes (digitsOf (c .before .before .before .before .before .before .before .before .before .args .v)) (c .before .before .before .before .before .before .put-decimal .ensures)) (λ _. put-byte (c .before .before .before .before .before .before .before .before .before .args .after) (c .before .before .put .ensures))
+returns c =
+    let putAt = c .before .before in
+    let putDecimalAt = putAt .before .before .before .before in
+    let entry = putDecimalAt .before .before .before in
+    let a = entry .args in
+    put-then (omega arith) (put-bytes (digitsOf (a .v)) (putDecimalAt .put-decimal .ensures)) (λ _. put-byte (a .after) (putAt .put .ensures))
 
 pub put-number-spec : {M : Type 1} → statement M
 put-number-spec = tie.close (tie.spec put-decimal-requires put-requires same-length returns)

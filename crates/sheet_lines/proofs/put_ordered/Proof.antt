@@ -29,7 +29,15 @@ same-length c = search needs
 
 returns : tie.Need-returns
 unfolding orderedLine
-returns c = put-then (omega arith) (put-bytes orderedWord (c .before .before .before .before .before .before .before .before .before .before .before .before .before .before .before .before .before .before .put-bytes .ensures)) (λ s. put-then s (c .before .before .before .before .before .before .before .before .before .before .before .before .before .before .put-number .ensures) (λ t. put-then t (c .before .before .before .before .before .before .before .before .before .before .put-number2 .ensures) (λ u. put-then u (c .before .before .before .before .before .before .put-number3 .ensures) (λ _. c .before .before .put-number4 .ensures))))
+returns c =
+    let putNumber4At = c .before .before in
+    let putNumber3At = putNumber4At .before .before .before .before in
+    let putNumber2At = putNumber3At .before .before .before .before in
+    let putNumberAt = putNumber2At .before .before .before .before in
+    let putBytesAt = putNumberAt .before .before .before .before in
+    put-then (omega arith) (put-bytes orderedWord (putBytesAt .put-bytes .ensures))
+    (λ s. put-then s (putNumberAt .put-number .ensures) (λ t. put-then t (putNumber2At .put-number2 .ensures)
+    (λ u. put-then u (putNumber3At .put-number3 .ensures) (λ _. putNumber4At .put-number4 .ensures))))
 
 pub put-ordered-spec : {M : Type 1} → statement M
 put-ordered-spec =

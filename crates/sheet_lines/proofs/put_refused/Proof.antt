@@ -23,7 +23,12 @@ same-length c = search needs
 
 returns : tie.Need-returns
 unfolding refusedLine
-returns c = put-then (omega arith) (put-bytes refusedWord (c .before .before .before .before .before .before .before .before .before .before .put-bytes .ensures)) (λ s. put-then s (c .before .before .before .before .before .before .put-number .ensures) (λ _. c .before .before .put-number2 .ensures))
+returns c =
+    let putNumber2At = c .before .before in
+    let putNumberAt = putNumber2At .before .before .before .before in
+    let putBytesAt = putNumberAt .before .before .before .before in
+    put-then (omega arith) (put-bytes refusedWord (putBytesAt .put-bytes .ensures))
+    (λ s. put-then s (putNumberAt .put-number .ensures) (λ _. putNumber2At .put-number2 .ensures))
 
 pub put-refused-spec : {M : Type 1} → statement M
 put-refused-spec =

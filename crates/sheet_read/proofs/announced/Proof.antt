@@ -16,8 +16,10 @@ code-count-requires c κs = record { ten = c .before .before .if1 .taken; within
 
 returns-2 : tie.Need-returns-2
 returns-2 c =
-    c .code-count .ensures
-    ∙ sym (announced-taken (record { ten = c .before .before .before .if1 .taken; within = sym (c .before .before .too-large .ensures) ∙ c .before .if2 .left }))
+    let tooLargeAt = c .before .before in
+    let if1At = tooLargeAt .before in
+    c .code-count .ensures ∙ sym (announced-taken (record
+    { ten = if1At .if1 .taken; within = sym (tooLargeAt .too-large .ensures) ∙ c .before .if2 .left }))
 
 returns-3 : tie.Need-returns-3
 returns-3 c = announced-other _ (ne-eqb _ _ (c .if1 .left))

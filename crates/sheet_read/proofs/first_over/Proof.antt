@@ -33,7 +33,12 @@ shared-slice-read-t10 : tie.Need-shared-slice-read-t10 Inv-loop μ-loop
 shared-slice-read-t10 c = search needs
 
 returns : tie.Need-returns Inv-loop μ-loop
-returns c = over-here (c .before .before .before .before .before .args .bound) (now (c .before .before .before .before .before .args .numbers)) (c .before .before .before .before .loop .i) (getD (now (c .before .before .before .before .before .args .numbers)) (c .before .before .before .before .loop .i) 0) (omega arith) (c .before .if1 .taken) refl ∙ ap offender (sym (c .before .before .before .before .loop .inv))
+returns c =
+    let loopAt = c .before .before .before .before in
+    let entry = loopAt .before in
+    let a = entry .args in
+    over-here (a .bound) (now (a .numbers)) (loopAt .loop .i) (getD (now (a .numbers)) (loopAt .loop .i) 0) (omega arith) (c .before .if1 .taken) refl
+    ∙ ap offender (sym (loopAt .loop .inv))
 
 add-i : tie.Need-add-i Inv-loop μ-loop
 add-i c = search needs
@@ -42,10 +47,17 @@ loop-less : tie.Need-loop-less Inv-loop μ-loop
 loop-less c = search needs
 
 loop-again : tie.Need-loop-again Inv-loop μ-loop
-loop-again c = c .before .before .before .loop .inv ∙ over-on (c .before .before .before .before .args .bound) (now (c .before .before .before .before .args .numbers)) (c .before .before .before .loop .i) (getD (now (c .before .before .before .before .args .numbers)) (c .before .before .before .loop .i) 0) (omega arith) (c .if1 .left) refl
+loop-again c =
+    let loopAt = c .before .before .before in
+    let entry = loopAt .before in
+    let a = entry .args in
+    loopAt .loop .inv ∙ over-on (a .bound) (now (a .numbers)) (loopAt .loop .i) (getD (now (a .numbers)) (loopAt .loop .i) 0) (omega arith)
+    (c .if1 .left) refl
 
 returns-2 : tie.Need-returns-2 Inv-loop μ-loop
-returns-2 c = over-end (c .before .before .args .bound) (now (c .before .before .args .numbers)) (c .before .loop .i) (omega arith) ∙ ap offender (sym (c .before .loop .inv))
+returns-2 c =
+    over-end (c .before .before .args .bound) (now (c .before .before .args .numbers)) (c .before .loop .i) (omega arith) ∙ ap offender
+    (sym (c .before .loop .inv))
 
 pub first-over-spec : {M : Type 1} → statement M
 first-over-spec =

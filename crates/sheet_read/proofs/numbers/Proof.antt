@@ -1,4 +1,5 @@
--- `sheet_read::numbers` meets its contract: a turn of the loop reads one number more, so that the whole run is those read and the run from the place reached (`Filling`). Assumes nothing.
+-- `sheet_read::numbers` meets its contract: a turn of the loop reads one number more, so that the whole run is those read and the run from the place
+-- reached (`Filling`). Assumes nothing.
 use borrow.Author.Needs.{needs}
 use Prim.Native.Nat.{_-_}
 use mathlib.Core.Path.{sym, _∙_}
@@ -32,7 +33,16 @@ slice-write-list : tie.Need-slice-write-list Inv-loop μ-loop
 slice-write-list c = search needs
 
 add-place : tie.Need-add-place Inv-loop μ-loop
-add-place c = omega (arith, binary-uses (now (c .before .before .before .before .before .before .before .before .args .s)) (c .before .before .before .before .before .loop .place) (c .before .token .given .0 .0) (c .before .token .given .0 .1 .0) (sym (c .before .before .before .binary-uint .ensures) ∙ c .before .token .given .1))
+add-place c =
+    let tokenAt = c .before in
+    let binaryUintAt = tokenAt .before .before in
+    let loopAt = binaryUintAt .before .before in
+    let entry = loopAt .before .before .before in
+    omega (
+      arith,
+      binary-uses (now (entry .args .s)) (loopAt .loop .place) (tokenAt .token .given .0 .0) (tokenAt .token .given .0 .1 .0)
+          (sym (binaryUintAt .binary-uint .ensures) ∙ tokenAt .token .given .1),
+    )
 
 add-i : tie.Need-add-i Inv-loop μ-loop
 add-i c = search needs
@@ -41,16 +51,24 @@ loop-less : tie.Need-loop-less Inv-loop μ-loop
 loop-less c = search needs
 
 loop-again : tie.Need-loop-again Inv-loop μ-loop
-loop-again c = filling-more (c .before .before .before .before .before .loop .inv) _ _ (omega arith) (sym (c .before .before .before .binary-uint .ensures) ∙ c .before .token .given .1)
+loop-again c =
+    let binaryUintAt = c .before .before .before in
+    let loopAt = binaryUintAt .before .before in
+    filling-more (loopAt .loop .inv) _ _ (omega arith) (sym (binaryUintAt .binary-uint .ensures) ∙ c .before .token .given .1)
 
 enum-known-token-2 : tie.Need-enum-known-token-2 Inv-loop μ-loop
 enum-known-token-2 c = c .match .keys2
 
 same-length : tie.Need-same-length Inv-loop μ-loop
-same-length c = c .before .before .before .before .before .loop .inv .same
+same-length c =
+    let loopAt = c .before .before .before .before .before in
+    loopAt .loop .inv .same
 
 returns : tie.Need-returns Inv-loop μ-loop
-returns c = filling-broken (c .before .before .before .before .before .loop .inv) _ _ (omega arith) (sym (c .before .before .before .binary-uint .ensures) ∙ c .before .token2 .given .1)
+returns c =
+    let binaryUintAt = c .before .before .before in
+    let loopAt = binaryUintAt .before .before in
+    filling-broken (loopAt .loop .inv) _ _ (omega arith) (sym (binaryUintAt .binary-uint .ensures) ∙ c .before .token2 .given .1)
 
 same-length-2 : tie.Need-same-length-2 Inv-loop μ-loop
 same-length-2 c = c .before .loop .inv .same

@@ -9,7 +9,10 @@ faulty-requires : tie.Need-faulty-requires
 faulty-requires c κs = tt
 
 returns : tie.Need-returns
-returns c = sheet-long (now (c .before .before .before .args .sheet)) (now (c .before .before .before .args .header)) (now (c .before .before .before .args .codes)) _ (c .faulty .ensures) (c .before .if1 .taken)
+returns c =
+    let entry = c .before .before .before in
+    let a = entry .args in
+    sheet-long (now (a .sheet)) (now (a .header)) (now (a .codes)) _ (c .faulty .ensures) (c .before .if1 .taken)
 
 numbers-requires : tie.Need-numbers-requires
 numbers-requires c κs = tt
@@ -27,10 +30,24 @@ broken-requires : tie.Need-broken-requires
 broken-requires c κs = tt
 
 returns-2 : tie.Need-returns-2
-returns-2 c = sheet-lists (now (c .before .before .before .before .before .before .before .before .before .before .before .args .sheet)) (now (c .before .before .before .before .before .before .before .before .before .before .before .args .header)) (now (c .before .before .before .before .before .before .before .before .before .before .before .args .codes)) (c .before .before .before .before .before .before .before .before .before .if1 .left) (search needs) _ _ (c .before .before .before .before .before .before .before .numbers .ensures) _ _ _ (c .before .before .before .before .before .end .given .1) (c .read-lists .ensures)
+returns-2 c =
+    let endAt = c .before .before .before .before .before in
+    let numbersAt = endAt .before .before in
+    let if1At = numbersAt .before .before in
+    let entry = if1At .before .before in
+    let a = entry .args in
+    sheet-lists (now (a .sheet)) (now (a .header)) (now (a .codes)) (if1At .if1 .left) (search needs) _ _ (numbersAt .numbers .ensures) _ _ _
+    (endAt .end .given .1) (c .read-lists .ensures)
 
 returns-3 : tie.Need-returns-3
-returns-3 c = sheet-broken (now (c .before .before .before .before .before .before .before .before .args .sheet)) (now (c .before .before .before .before .before .before .before .before .args .header)) (now (c .before .before .before .before .before .before .before .before .args .codes)) (c .before .before .before .before .before .before .if1 .left) (search needs) _ _ (c .before .before .before .before .numbers .ensures) _ _ _ (c .broken .ensures) (c .before .before .end2 .given .1)
+returns-3 c =
+    let end2At = c .before .before in
+    let numbersAt = end2At .before .before in
+    let if1At = numbersAt .before .before in
+    let entry = if1At .before .before in
+    let a = entry .args in
+    sheet-broken (now (a .sheet)) (now (a .header)) (now (a .codes)) (if1At .if1 .left) (search needs) _ _ (numbersAt .numbers .ensures) _ _ _
+    (c .broken .ensures) (end2At .end2 .given .1)
 
 pub read-spec : {M : Type 1} → statement M
 read-spec =

@@ -62,7 +62,9 @@ put-decimal-returns : (t : ℕ) → put-decimal-lts.Need-returns (
   put-decimal-below t,
   put-decimal.Post,
 ) (put-decimal-at t) put-decimal.Post
-put-decimal-returns t c = decimal-one _ _ _ _ _ (c .before .before .before .digit .result) (omega arith) (c .before .before .before .digit .ensures) (c .before .before .put .ensures .0) (c .before .before .put .ensures .1)
+put-decimal-returns t c =
+    decimal-one _ _ _ _ _ (c .before .before .before .digit .result) (omega arith) (c .before .before .before .digit .ensures)
+    (c .before .before .put .ensures .0) (c .before .before .put .ensures .1)
 
 put-decimal-put-decimal-requires : (t : ℕ) → put-decimal-lts.Need-put-decimal-requires (
   digit-reads.Asked,
@@ -112,7 +114,11 @@ put-decimal-returns-2 : (t : ℕ) → put-decimal-lts.Need-returns-2 (
   put-decimal-below t,
   put-decimal.Post,
 ) (put-decimal-at t) put-decimal.Post
-put-decimal-returns-2 t c = decimal-more _ _ _ _ _ (c .before .before .before .before .before .before .before .put-decimal .result) _ (c .before .before .before .digit2 .result) (omega arith) (omega arith) (omega arith) (c .before .before .before .before .before .before .before .put-decimal .ensures) (c .before .before .before .digit2 .ensures) (c .before .before .put2 .ensures .0) (c .before .before .put2 .ensures .1)
+put-decimal-returns-2 t c =
+    decimal-more _ _ _ _ _ (c .before .before .before .before .before .before .before .put-decimal .result) _
+    (c .before .before .before .digit2 .result) (omega arith) (omega arith) (omega arith)
+    (c .before .before .before .before .before .before .before .put-decimal .ensures) (c .before .before .before .digit2 .ensures)
+    (c .before .before .put2 .ensures .0) (c .before .before .put2 .ensures .1)
 
 pub +put-decimal-spec : {M : Type 1} → statement M
 +put-decimal-spec = close μ-put-decimal λ t. put-decimal-lts.spec (

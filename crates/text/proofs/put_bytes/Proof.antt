@@ -29,7 +29,10 @@ loop-less : tie.Need-loop-less Inv-loop μ-loop
 loop-less c = search needs
 
 loop-again : tie.Need-loop-again Inv-loop μ-loop
-loop-again c = putting-more (c .before .before .before .before .before .before .loop .inv) _ _ (omega arith) (omega arith) (c .before .before .put .ensures .0) (c .before .before .put .ensures .1)
+loop-again c =
+    let putAt = c .before .before in
+    let loopAt = putAt .before .before .before .before in
+    putting-more (loopAt .loop .inv) _ _ (omega arith) (omega arith) (putAt .put .ensures .0) (putAt .put .ensures .1)
 
 same-length : tie.Need-same-length Inv-loop μ-loop
 same-length c = putting-keeps (c .before .loop .inv)

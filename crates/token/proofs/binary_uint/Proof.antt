@@ -29,7 +29,9 @@ loop-holds : tie.Need-loop-holds Inv-loop μ-loop
 loop-holds c = (zero≤, room-whole (c .if1 .left), groups-passed-none _ _ (le-of-lt (c .if1 .left)))
 
 add-wide : tie.Need-add-wide Inv-loop μ-loop
-add-wide c = turn-place _ (c .before .loop .inv .1) (c .loop-test .taken) (c .before .before .before .before .good .0 .1)
+add-wide c =
+    let entry = c .before .before .before .before in
+    turn-place _ (c .before .loop .inv .1) (c .loop-test .taken) (entry .good .0 .1)
 
 shared-slice-read-wide : tie.Need-shared-slice-read-wide Inv-loop μ-loop
 shared-slice-read-wide c = turn-there _ (c .before .before .loop .inv .1) (c .before .loop-test .taken)
@@ -47,31 +49,63 @@ add-t17 : tie.Need-add-t17 Inv-loop μ-loop
 add-t17 c = groups-passed-count (c .before .before .before .before .loop .inv .2)
 
 returns-2 : tie.Need-returns-2 Inv-loop μ-loop
-returns-2 c = groups-passed-last (c .before .before .before .before .loop .inv .2) (turn-there _ (c .before .before .before .before .loop .inv .1) (c .before .before .before .loop-test .taken)) (c .before .wide .ensures) (c .if2 .taken)
+returns-2 c =
+    let loopTestAt = c .before .before .before in
+    let loopAt = loopTestAt .before in
+    groups-passed-last (loopAt .loop .inv .2) (turn-there _ (loopAt .loop .inv .1) (loopTestAt .loop-test .taken)) (c .before .wide .ensures)
+    (c .if2 .taken)
 
 returns-3 : tie.Need-returns-3 Inv-loop μ-loop
-returns-3 c = groups-passed-long (c .before .before .before .before .before .loop .inv .2) (turn-there _ (c .before .before .before .before .before .loop .inv .1) (c .before .before .before .before .loop-test .taken)) (c .before .before .wide .ensures) (c .before .if2 .left) (c .if3 .taken)
+returns-3 c =
+    let wideAt = c .before .before in
+    let loopTestAt = wideAt .before .before in
+    let loopAt = loopTestAt .before in
+    groups-passed-long (loopAt .loop .inv .2) (turn-there _ (loopAt .loop .inv .1) (loopTestAt .loop-test .taken)) (wideAt .wide .ensures)
+    (c .before .if2 .left) (c .if3 .taken)
 
 mul-v : tie.Need-mul-v Inv-loop μ-loop
 mul-v c =
-    group-fits (c .before .before .before .before .before .loop .inv .2) (group-low (c .before .before .before .before .before .loop .inv .2) (turn-there _ (c .before .before .before .before .before .loop .inv .1) (c .before .before .before .before .loop-test .taken)) (c .before .before .wide .ensures) (c .before .if2 .left) (c .before .before .before .shared-slice-known2 .given _))
+    let wideAt = c .before .before in
+    let sharedSliceKnown2At = wideAt .before in
+    let loopTestAt = sharedSliceKnown2At .before in
+    let loopAt = loopTestAt .before in
+    group-fits (loopAt .loop .inv .2) (group-low (loopAt .loop .inv .2) (turn-there _ (loopAt .loop .inv .1) (loopTestAt .loop-test .taken))
+    (wideAt .wide .ensures) (c .before .if2 .left) (sharedSliceKnown2At .shared-slice-known2 .given _))
 
 add-v : tie.Need-add-v Inv-loop μ-loop
 add-v c =
-    group-added (c .before .before .before .before .before .loop .inv .2) (group-low (c .before .before .before .before .before .loop .inv .2) (turn-there _ (c .before .before .before .before .before .loop .inv .1) (c .before .before .before .before .loop-test .taken)) (c .before .before .wide .ensures) (c .before .if2 .left) (c .before .before .before .shared-slice-known2 .given _))
+    let wideAt = c .before .before in
+    let sharedSliceKnown2At = wideAt .before in
+    let loopTestAt = sharedSliceKnown2At .before in
+    let loopAt = loopTestAt .before in
+    group-added (loopAt .loop .inv .2) (group-low (loopAt .loop .inv .2) (turn-there _ (loopAt .loop .inv .1) (loopTestAt .loop-test .taken))
+    (wideAt .wide .ensures) (c .before .if2 .left) (sharedSliceKnown2At .shared-slice-known2 .given _))
 
 mul-weight : tie.Need-mul-weight Inv-loop μ-loop
-mul-weight c = groups-passed-weight (c .before .before .before .before .before .loop .inv .2)
+mul-weight c =
+    let loopAt = c .before .before .before .before .before in
+    groups-passed-weight (loopAt .loop .inv .2)
 
 add-n : tie.Need-add-n Inv-loop μ-loop
-add-n c = groups-passed-count (c .before .before .before .before .before .loop .inv .2)
+add-n c =
+    let loopAt = c .before .before .before .before .before in
+    groups-passed-count (loopAt .loop .inv .2)
 
 loop-less : tie.Need-loop-less Inv-loop μ-loop
 loop-less c = turn-nearer (c .before .before .before .before .loop-test .taken)
 
 loop-again : tie.Need-loop-again Inv-loop μ-loop
 loop-again c =
-    (turn-within (c .before .before .before .before .loop-test .taken), c .before .before .before .before .before .loop .inv .1, groups-passed-group (c .before .before .before .before .before .loop .inv .2) (turn-there _ (c .before .before .before .before .before .loop .inv .1) (c .before .before .before .before .loop-test .taken)) (c .before .before .wide .ensures) (c .before .if2 .left) (c .before .before .before .shared-slice-known2 .given _) (c .if3 .left))
+    let wideAt = c .before .before in
+    let sharedSliceKnown2At = wideAt .before in
+    let loopTestAt = sharedSliceKnown2At .before in
+    let loopAt = loopTestAt .before in (
+      turn-within (loopTestAt .loop-test .taken),
+      loopAt .loop .inv .1,
+      groups-passed-group (loopAt .loop .inv .2)
+          (turn-there _ (loopAt .loop .inv .1) (loopTestAt .loop-test .taken)) (wideAt .wide .ensures) (c .before .if2 .left)
+          (sharedSliceKnown2At .shared-slice-known2 .given _) (c .if3 .left),
+    )
 
 returns-4 : tie.Need-returns-4 Inv-loop μ-loop
 returns-4 c = groups-passed-cut (c .before .loop .inv .2) (turn-past _ (c .before .loop .inv .1) (c .loop-test .left))

@@ -22,37 +22,73 @@ digit-at-requires : tie.Need-digit-at-requires Inv-loop μ-loop
 digit-at-requires c κs = tt
 
 add-wide : tie.Need-add-wide Inv-loop μ-loop
-add-wide c = digits-passed-place (c .before .before .loop .inv) (c .before .before .before .before .good .0 .1)
+add-wide c =
+    let loopAt = c .before .before in
+    let entry = loopAt .before .before in
+    digits-passed-place (loopAt .loop .inv) (entry .good .0 .1)
 
 shared-slice-read-wide : tie.Need-shared-slice-read-wide Inv-loop μ-loop
-shared-slice-read-wide c = digit-there (c .before .before .before .loop .inv) (c .before .before .digit-at .ensures) (c .before .if1 .taken)
+shared-slice-read-wide c =
+    let digitAtAt = c .before .before in
+    let loopAt = digitAtAt .before in
+    digit-there (loopAt .loop .inv) (digitAtAt .digit-at .ensures) (c .before .if1 .taken)
 
 sub-wide : tie.Need-sub-wide Inv-loop μ-loop
-sub-wide c = digit-least (c .before .before .before .loop .inv) (c .before .before .digit-at .ensures) (c .before .if1 .taken)
+sub-wide c =
+    let digitAtAt = c .before .before in
+    let loopAt = digitAtAt .before in
+    digit-least (loopAt .loop .inv) (digitAtAt .digit-at .ensures) (c .before .if1 .taken)
 
 wide-requires : tie.Need-wide-requires Inv-loop μ-loop
 wide-requires c κs = tt
 
 sub-if2 : tie.Need-sub-if2 Inv-loop μ-loop
-sub-if2 c = digit-small (c .before .before .before .before .loop .inv) (c .before .before .before .digit-at .ensures) (c .before .before .if1 .taken) (c .wide .ensures)
+sub-if2 c =
+    let if1At = c .before .before in
+    let digitAtAt = if1At .before in
+    let loopAt = digitAtAt .before in
+    digit-small (loopAt .loop .inv) (digitAtAt .digit-at .ensures) (if1At .if1 .taken) (c .wide .ensures)
 
 returns : tie.Need-returns Inv-loop μ-loop
-returns c = digits-passed-over (c .before .before .before .before .before .loop .inv) (c .before .before .before .before .digit-at .ensures) (c .before .before .before .if1 .taken) (c .before .wide .ensures) (c .if2 .taken)
+returns c =
+    let if1At = c .before .before .before in
+    let digitAtAt = if1At .before in
+    let loopAt = digitAtAt .before in
+    digits-passed-over (loopAt .loop .inv) (digitAtAt .digit-at .ensures) (if1At .if1 .taken) (c .before .wide .ensures) (c .if2 .taken)
 
 mul-v : tie.Need-mul-v Inv-loop μ-loop
-mul-v c = digit-tens (c .before .before .before .before .before .loop .inv) (c .before .before .before .before .digit-at .ensures) (c .before .before .before .if1 .taken) (c .before .wide .ensures) (c .if2 .left)
+mul-v c =
+    let if1At = c .before .before .before in
+    let digitAtAt = if1At .before in
+    let loopAt = digitAtAt .before in
+    digit-tens (loopAt .loop .inv) (digitAtAt .digit-at .ensures) (if1At .if1 .taken) (c .before .wide .ensures) (c .if2 .left)
 
 add-v : tie.Need-add-v Inv-loop μ-loop
-add-v c = digit-added (c .before .before .before .before .before .loop .inv) (c .before .before .before .before .digit-at .ensures) (c .before .before .before .if1 .taken) (c .before .wide .ensures) (c .if2 .left)
+add-v c =
+    let if1At = c .before .before .before in
+    let digitAtAt = if1At .before in
+    let loopAt = digitAtAt .before in
+    digit-added (loopAt .loop .inv) (digitAtAt .digit-at .ensures) (if1At .if1 .taken) (c .before .wide .ensures) (c .if2 .left)
 
 add-n : tie.Need-add-n Inv-loop μ-loop
-add-n c = digits-passed-count (c .before .before .before .before .before .loop .inv) (c .before .before .before .before .before .before .before .good .0 .1)
+add-n c =
+    let loopAt = c .before .before .before .before .before in
+    let entry = loopAt .before .before in
+    digits-passed-count (loopAt .loop .inv) (entry .good .0 .1)
 
 loop-less : tie.Need-loop-less Inv-loop μ-loop
-loop-less c = digit-nearer (c .before .before .before .before .before .loop .inv) (c .before .before .before .before .digit-at .ensures) (c .before .before .before .if1 .taken)
+loop-less c =
+    let if1At = c .before .before .before in
+    let digitAtAt = if1At .before in
+    let loopAt = digitAtAt .before in
+    digit-nearer (loopAt .loop .inv) (digitAtAt .digit-at .ensures) (if1At .if1 .taken)
 
 loop-again : tie.Need-loop-again Inv-loop μ-loop
-loop-again c = digits-passed-digit (c .before .before .before .before .before .loop .inv) (c .before .before .before .before .digit-at .ensures) (c .before .before .before .if1 .taken) (c .before .wide .ensures) (c .if2 .left)
+loop-again c =
+    let if1At = c .before .before .before in
+    let digitAtAt = if1At .before in
+    let loopAt = digitAtAt .before in
+    digits-passed-digit (loopAt .loop .inv) (digitAtAt .digit-at .ensures) (if1At .if1 .taken) (c .before .wide .ensures) (c .if2 .left)
 
 returns-2 : tie.Need-returns-2 Inv-loop μ-loop
 returns-2 c = digits-passed-end (c .before .before .loop .inv) (c .before .digit-at .ensures) (c .if1 .left)

@@ -13,7 +13,10 @@ shared-slice-read-b : tie.Need-shared-slice-read-b
 shared-slice-read-b c = search needs
 
 returns-2 : tie.Need-returns-2
-returns-2 c = let a = c .before .before .before .args in rw (digits-none (a .s .now) (a .at) _ (omega arith) refl (digit-under _ (c .if2 .taken)))
+returns-2 c =
+    let entry = c .before .before .before in
+    let a = entry .args in
+    rw (digits-none (a .s .now) (a .at) _ (omega arith) refl (digit-under _ (c .if2 .taken)))
 
 returns-3 : tie.Need-returns-3
 returns-3 c =

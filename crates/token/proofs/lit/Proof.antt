@@ -19,7 +19,10 @@ held-to-requires-2 c κs = search needs
 
 returns : tie.Need-returns
 unfolding litAt
-returns c = c .held-to .ensures ∙ rw (c .before .assignable .ensures, c .before .before .before .uint .ensures, c .before .before .if1 .taken)
+returns c =
+    let if1At = c .before .before in
+    let uintAt = if1At .before in
+    c .held-to .ensures ∙ rw (c .before .assignable .ensures, uintAt .uint .ensures, if1At .if1 .taken)
 
 returns-2 : tie.Need-returns-2
 unfolding litAt

@@ -14,8 +14,10 @@ enum-known-first c = c .match .keys1
 
 add-delta-code : tie.Need-add-delta-code
 add-delta-code c =
-    let a = c .before .before .before .before .before .args in
-    delta-place (a .s .now) (a .at) (a .code) _ _ (sym (c .before .before .before .delta-code .ensures) ∙ c .before .first .given .1) (c .before .before .before .before .before .good .0 .1)
+    let deltaCodeAt = c .before .before .before in
+    let entry = deltaCodeAt .before .before in
+    let a = entry .args in
+    delta-place (a .s .now) (a .at) (a .code) _ _ (sym (deltaCodeAt .delta-code .ensures) ∙ c .before .first .given .1) (entry .good .0 .1)
 
 delta-code-requires-2 : tie.Need-delta-code-requires-2
 delta-code-requires-2 c κs = tt
@@ -25,9 +27,14 @@ enum-known-value c = c .match2 .keys1
 
 inputs-requires : tie.Need-inputs-requires
 inputs-requires c κs =
-    let a = c .before .before .before .before .before .before .before .before .before .args in (
-      delta-used (a .s .now) (a .at) (a .code) _ _ (sym (c .before .before .before .before .before .before .before .delta-code .ensures) ∙ c .before .before .before .before .before .first .given .1) .eight,
-      delta-used (a .s .now) _ _ _ _ (sym (c .before .before .before .delta-code2 .ensures) ∙ c .before .value .given .1) .eight,
+    let deltaCode2At = c .before .before .before in
+    let firstAt = deltaCode2At .before .before in
+    let deltaCodeAt = firstAt .before .before in
+    let entry = deltaCodeAt .before .before in
+    let a = entry .args in (
+      delta-used (a .s .now) (a .at) (a .code) _ _ (sym (deltaCodeAt .delta-code .ensures) ∙ firstAt .first .given .1) .eight,
+      delta-used (a .s .now) _
+          _ _ _ (sym (deltaCode2At .delta-code2 .ensures) ∙ c .before .value .given .1) .eight,
     )
 
 enum-known-why : tie.Need-enum-known-why
@@ -38,11 +45,25 @@ enum-known-why-2 c = c .match .keys2
 
 returns : tie.Need-returns
 unfolding pairAt
-returns c = c .inputs .ensures ∙ rw (← c .before .before .before .before .before .before .before .before .delta-code .ensures, c .before .before .before .before .before .before .first .given .1, ← c .before .before .before .before .delta-code2 .ensures, c .before .before .value .given .1)
+returns c =
+    let valueAt = c .before .before in
+    let deltaCode2At = valueAt .before .before in
+    let firstAt = deltaCode2At .before .before in
+    let deltaCodeAt = firstAt .before .before in
+    c .inputs .ensures ∙ rw (
+      ← deltaCodeAt .delta-code .ensures,
+      firstAt .first .given .1,
+      ← deltaCode2At .delta-code2 .ensures,
+      valueAt .value .given .1,
+    )
 
 returns-2 : tie.Need-returns-2
 unfolding pairAt
-returns-2 c = rw (← c .before .before .before .before .before .before .before .delta-code .ensures, c .before .before .before .before .before .first .given .1, ← c .before .before .before .delta-code2 .ensures, c .before .why .given .1)
+returns-2 c =
+    let deltaCode2At = c .before .before .before in
+    let firstAt = deltaCode2At .before .before in
+    let deltaCodeAt = firstAt .before .before in
+    rw (← deltaCodeAt .delta-code .ensures, firstAt .first .given .1, ← deltaCode2At .delta-code2 .ensures, c .before .why .given .1)
 
 returns-3 : tie.Need-returns-3
 unfolding pairAt

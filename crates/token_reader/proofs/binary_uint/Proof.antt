@@ -14,5 +14,6 @@ use Rattle.token_reader.proofs.binary_uint.Code as code
 pub binary-uint-spec : {M : Type 1} → stated.statement M
 unfolding code.routine
 binary-uint-spec 𝓤 H 𝓜 𝓖 𝓡 =
-    one-call 𝓤 H 𝓜 𝓡 _ _ code.env key.name code.function (code.unfolded 𝓤 H 𝓜 𝓡) token.name token.routine code.calls-token·binary-uint (token-meets.met 𝓤 H 𝓜 𝓖 𝓡)
+    one-call 𝓤 H 𝓜 𝓡 _ _ code.env key.name code.function (code.unfolded 𝓤 H 𝓜 𝓡) token.name token.routine code.calls-token·binary-uint
+    (token-meets.met 𝓤 H 𝓜 𝓖 𝓡)
     (bare-meets answer.the-type answer-laws.the-laws tt token.name binaryAt 𝓤 H (𝓖 .A) (givenOf 𝓤 H 𝓜 𝓖))

@@ -14,5 +14,6 @@ use Rattle.token_reader.proofs.delta_code.Code as code
 pub delta-code-spec : {M : Type 1} → stated.statement M
 unfolding code.routine
 delta-code-spec 𝓤 H 𝓜 𝓖 𝓡 =
-    one-call 𝓤 H 𝓜 𝓡 _ _ code.env key.name code.function (code.unfolded 𝓤 H 𝓜 𝓡) token.name token.routine code.calls-token·delta-code (token-meets.met 𝓤 H 𝓜 𝓖 𝓡)
+    one-call 𝓤 H 𝓜 𝓡 _ _ code.env key.name code.function (code.unfolded 𝓤 H 𝓜 𝓡) token.name token.routine code.calls-token·delta-code
+    (token-meets.met 𝓤 H 𝓜 𝓖 𝓡)
     (numbered-meets answer.the-type answer-laws.the-laws tt token.name deltaAt 𝓤 H (𝓖 .A) (givenOf 𝓤 H 𝓜 𝓖))

@@ -14,5 +14,6 @@ use Rattle.token_reader.proofs.header_field.Code as code
 pub header-field-spec : {M : Type 1} → stated.statement M
 unfolding code.routine
 header-field-spec 𝓤 H 𝓜 𝓖 𝓡 =
-    one-call 𝓤 H 𝓜 𝓡 _ _ code.env key.name code.function (code.unfolded 𝓤 H 𝓜 𝓡) token.name token.routine code.calls-token·header-field (token-meets.met 𝓤 H 𝓜 𝓖 𝓡)
+    one-call 𝓤 H 𝓜 𝓡 _ _ code.env key.name code.function (code.unfolded 𝓤 H 𝓜 𝓡) token.name token.routine code.calls-token·header-field
+    (token-meets.met 𝓤 H 𝓜 𝓖 𝓡)
     (numbered-meets answer.the-type answer-laws.the-laws tt token.name headerFieldAt 𝓤 H (𝓖 .A) (givenOf 𝓤 H 𝓜 𝓖))

@@ -14,5 +14,6 @@ use Rattle.token_reader.proofs.moved.Code as code
 pub moved-spec : {M : Type 1} → stated.statement M
 unfolding code.routine
 moved-spec 𝓤 H 𝓜 𝓖 𝓡 =
-    one-call 𝓤 H 𝓜 𝓡 _ _ code.env key.name code.function (code.unfolded 𝓤 H 𝓜 𝓡) place.name place.routine code.calls-token-reader·place-after (place-meets.met 𝓤 H 𝓜 𝓖 𝓡)
+    one-call 𝓤 H 𝓜 𝓡 _ _ code.env key.name code.function (code.unfolded 𝓤 H 𝓜 𝓡) place.name place.routine code.calls-token-reader·place-after
+    (place-meets.met 𝓤 H 𝓜 𝓖 𝓡)
     (walk.meets answer.the-type answer-laws.the-laws tt answer-laws.the-copy place.name placeAfter 𝓤 H (𝓖 .A) (givenOf 𝓤 H 𝓜 𝓖))

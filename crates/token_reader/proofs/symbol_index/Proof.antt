@@ -14,5 +14,6 @@ use Rattle.token_reader.proofs.symbol_index.Code as code
 pub symbol-index-spec : {M : Type 1} → stated.statement M
 unfolding code.routine
 symbol-index-spec 𝓤 H 𝓜 𝓖 𝓡 =
-    one-call 𝓤 H 𝓜 𝓡 _ _ code.env key.name code.function (code.unfolded 𝓤 H 𝓜 𝓡) token.name token.routine code.calls-token·symbol-index (token-meets.met 𝓤 H 𝓜 𝓖 𝓡)
+    one-call 𝓤 H 𝓜 𝓡 _ _ code.env key.name code.function (code.unfolded 𝓤 H 𝓜 𝓡) token.name token.routine code.calls-token·symbol-index
+    (token-meets.met 𝓤 H 𝓜 𝓖 𝓡)
     (numbered-meets answer.the-type answer-laws.the-laws tt token.name symbolIndexAt 𝓤 H (𝓖 .A) (givenOf 𝓤 H 𝓜 𝓖))

@@ -20,7 +20,11 @@ use std::{collections::BTreeMap, process::exit};
 #[derive(Default)]
 struct Tally {
     answers: BTreeMap<u32, u64>,
+    compared: u64,
 }
+
+/// After how many circuits a line says how many were compared.
+const PROGRESS: u64 = 5_000_000;
 
 impl Tally {
     fn compare(&mut self, circuit: &Circuit, spare: [isize; 5]) {
@@ -39,6 +43,10 @@ impl Tally {
             exit(1);
         }
         *self.answers.entry(port.number).or_default() += 1;
+        self.compared += 1;
+        if self.compared % PROGRESS == 0 {
+            eprintln!("  {} circuits so far, no difference", self.compared);
+        }
     }
 }
 

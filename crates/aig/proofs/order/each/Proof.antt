@@ -13,7 +13,9 @@ abbrev μ-loop : tie.MeasureT-loop
 μ-loop lits step shape gates map₀ out₀ scratch₀ end₀ i₀ map out scratch end i = length lits - i
 
 loop-holds : tie.Need-loop-holds Inv-loop μ-loop
-loop-holds c = listing-start (c .before .before .before .before .before .pre .0) (c .before .before .before .before .before .pre .2)
+loop-holds c =
+    let entry = c .before .before .before .before .before in
+    listing-start (entry .pre .0) (entry .pre .2)
 
 enum-known-end : tie.Need-enum-known-end Inv-loop μ-loop
 enum-known-end c = c .match .keys1
@@ -22,16 +24,27 @@ start-requires : tie.Need-start-requires Inv-loop μ-loop
 start-requires c κs = tt
 
 mul-from-code : tie.Need-mul-from-code Inv-loop μ-loop
-mul-from-code c = record { fits = omega (arith, c .before .before .before .before .loop-test .taken, c .before .before .before .before .before .before .before .before .before .before .before .good .0) }
+mul-from-code c =
+    let loopTestAt = c .before .before .before .before in
+    let entry = loopTestAt .before .before .before .before .before .before .before in
+    record { fits = omega (arith, loopTestAt .loop-test .taken, entry .good .0) }
 
 shared-slice-read-from-code : tie.Need-shared-slice-read-from-code Inv-loop μ-loop
-shared-slice-read-from-code c = c .before .before .before .before .before .loop-test .taken
+shared-slice-read-from-code c =
+    let loopTestAt = c .before .before .before .before .before in
+    loopTestAt .loop-test .taken
 
 from-code-requires : tie.Need-from-code-requires Inv-loop μ-loop
 from-code-requires c κs = tt
 
 run-requires : tie.Need-run-requires Inv-loop μ-loop
-run-requires c κs = listing-one (c .before .before .before .before .before .before .before .before .before .before .loop .inv) (c .before .before .before .before .before .before .before .end .given .1) (c .before .before .before .before .before .before .before .before .before .loop-test .taken) (c .before .before .before .before .before .start .ensures) (c .before .before .before .from-code .ensures)
+run-requires c κs =
+    let fromCodeAt = c .before .before .before in
+    let startAt = fromCodeAt .before .before in
+    let endAt = startAt .before .before in
+    let loopTestAt = endAt .before .before in
+    let loopAt = loopTestAt .before in
+    listing-one (loopAt .loop .inv) (endAt .end .given .1) (loopTestAt .loop-test .taken) (startAt .start .ensures) (fromCodeAt .from-code .ensures)
 
 enum-known-end-2 : tie.Need-enum-known-end-2 Inv-loop μ-loop
 enum-known-end-2 c = c .match .keys2
@@ -46,16 +59,36 @@ same-length-3 : tie.Need-same-length-3 Inv-loop μ-loop
 same-length-3 c = listing-scratch (c .before .before .before .before .loop .inv)
 
 returns : tie.Need-returns Inv-loop μ-loop
-returns c = listing-stop (c .before .before .before .before .loop .inv) _ (c .before .end2 .given .1)
+returns c =
+    let loopAt = c .before .before .before .before in
+    listing-stop (loopAt .loop .inv) _ (c .before .end2 .given .1)
 
 add-i : tie.Need-add-i Inv-loop μ-loop
-add-i c = record { fits = omega (arith, c .before .before .before .before .before .before .before .before .before .before .before .before .before .before .before .before .loop-test .taken, c .before .before .before .before .before .before .before .before .before .before .before .before .before .before .before .before .before .before .before .before .before .before .before .pre .1, c .before .before .before .before .before .before .before .before .before .before .before .before .before .before .before .before .before .before .before .before .before .before .before .good .0) }
+add-i c =
+    let loopTestAt =
+    c .before .before .before .before .before .before .before .before .before .before .before .before .before .before
+    .before .before in
+    let entry = loopTestAt .before .before .before .before .before .before .before in
+    record { fits = omega (arith, loopTestAt .loop-test .taken, entry .pre .1, entry .good .0) }
 
 loop-less : tie.Need-loop-less Inv-loop μ-loop
-loop-less c = omega (arith, c .before .before .before .before .before .before .before .before .before .before .before .before .before .before .before .before .loop-test .taken, c .before .before .before .before .before .before .before .before .before .before .before .before .before .before .before .before .before .before .before .before .before .before .before .pre .0)
+loop-less c =
+    let loopTestAt =
+    c .before .before .before .before .before .before .before .before .before .before .before .before .before .before
+    .before .before in
+    let entry = loopTestAt .before .before .before .before .before .before .before in
+    omega (arith, loopTestAt .loop-test .taken, entry .pre .0)
 
 loop-again : tie.Need-loop-again Inv-loop μ-loop
-loop-again c = listing-on (c .before .before .before .before .before .before .before .before .before .before .before .before .before .before .before .before .before .loop .inv) (c .before .before .before .before .before .before .before .before .before .before .before .before .before .before .end .given .1) (c .before .before .before .before .before .before .before .before .before .before .before .before .before .before .before .before .loop-test .taken) (c .before .before .before .before .before .before .before .before .before .before .before .before .start .ensures) (c .before .before .before .before .before .before .before .before .before .before .from-code .ensures) (c .before .before .before .before .before .before .run .result) _ _ _ (c .before .before .before .before .before .before .run .ensures)
+loop-again c =
+    let runAt = c .before .before .before .before .before .before in
+    let fromCodeAt = runAt .before .before .before .before in
+    let startAt = fromCodeAt .before .before in
+    let endAt = startAt .before .before in
+    let loopTestAt = endAt .before .before in
+    let loopAt = loopTestAt .before in
+    listing-on (loopAt .loop .inv) (endAt .end .given .1) (loopTestAt .loop-test .taken) (startAt .start .ensures) (fromCodeAt .from-code .ensures)
+    (runAt .run .result) _ _ _ (runAt .run .ensures)
 
 same-length-4 : tie.Need-same-length-4 Inv-loop μ-loop
 same-length-4 c = listing-map (c .before .loop .inv)

@@ -11,22 +11,33 @@ mul-at : tie.Need-mul-at
 mul-at c = record { fits = omega (arith, c .before .before .pre .0 .vars) }
 
 add-at : tie.Need-add-at
-add-at c = record { fits = omega (arith, c .before .before .before .pre .0 .vars, c .before .before .before .pre .0 .gates, c .before .before .before .pre .1) }
+add-at c =
+    let entry = c .before .before .before in
+    record { fits = omega (arith, entry .pre .0 .vars, entry .pre .0 .gates, entry .pre .1) }
 
 add-at-2 : tie.Need-add-at-2
-add-at-2 c = record { fits = omega (arith, c .before .before .before .pre .0 .vars, c .before .before .before .pre .0 .gates, c .before .before .before .pre .1) }
+add-at-2 c =
+    let entry = c .before .before .before in
+    record { fits = omega (arith, entry .pre .0 .vars, entry .pre .0 .gates, entry .pre .1) }
 
 word-of-requires : tie.Need-word-of-requires
 word-of-requires c κs = c .before .before .before .pre .2
 
 mul-scratch : tie.Need-mul-scratch
-mul-scratch c = record { fits = omega (arith, c .before .before .before .before .pre .0 .vars, c .before .before .before .before .pre .0 .gates, c .before .before .before .before .pre .1) }
+mul-scratch c =
+    let entry = c .before .before .before .before in
+    record { fits = omega (arith, entry .pre .0 .vars, entry .pre .0 .gates, entry .pre .1) }
 
 slice-write-scratch : tie.Need-slice-write-scratch
-slice-write-scratch c = omega (arith, c .before .before .before .before .pre .0 .long, c .before .before .before .before .pre .1)
+slice-write-scratch c =
+    let entry = c .before .before .before .before in
+    omega (arith, entry .pre .0 .long, entry .pre .1)
 
 same-length : tie.Need-same-length
-same-length c = length-set (c .before .before .before .before .args .scratch .now) (stackAt (c .before .before .before .before .args .shape) + c .before .before .before .before .args .depth) (c .word-of .result)
+same-length c =
+    let entry = c .before .before .before .before in
+    let a = entry .args in
+    length-set (a .scratch .now) (stackAt (a .shape) + a .depth) (c .word-of .result)
 
 returns : tie.Need-returns
 returns c =

@@ -14,7 +14,10 @@ code-requires : tie.Need-code-requires
 code-requires c κs = tt
 
 mul-result : tie.Need-mul-result
-mul-result c = record { fits = omega (arith, subst (λ (f : Frame). frameOf f .lit < 2 ^ 31) (c .before .before .frame .given .1) (c .before .before .before .before .pre)) }
+mul-result c =
+    let frameAt = c .before .before in
+    let entry = frameAt .before .before in
+    record { fits = omega (arith, subst (λ (f : Frame). frameOf f .lit < 2 ^ 31) (frameAt .frame .given .1) (entry .pre)) }
 
 enum-known-frame-2 : tie.Need-enum-known-frame-2
 enum-known-frame-2 c = c .match .keys2
@@ -23,10 +26,16 @@ code-requires-2 : tie.Need-code-requires-2
 code-requires-2 c κs = tt
 
 mul-result-2 : tie.Need-mul-result-2
-mul-result-2 c = record { fits = omega (arith, subst (λ (f : Frame). frameOf f .lit < 2 ^ 31) (c .before .before .frame2 .given .1) (c .before .before .before .before .pre)) }
+mul-result-2 c =
+    let frame2At = c .before .before in
+    let entry = frame2At .before .before in
+    record { fits = omega (arith, subst (λ (f : Frame). frameOf f .lit < 2 ^ 31) (frame2At .frame2 .given .1) (entry .pre)) }
 
 add-result : tie.Need-add-result
-add-result c = record { fits = omega (arith, subst (λ (f : Frame). frameOf f .lit < 2 ^ 31) (c .before .before .frame2 .given .1) (c .before .before .before .before .pre)) }
+add-result c =
+    let frame2At = c .before .before in
+    let entry = frame2At .before .before in
+    record { fits = omega (arith, subst (λ (f : Frame). frameOf f .lit < 2 ^ 31) (frame2At .frame2 .given .1) (entry .pre)) }
 
 returns : tie.Need-returns
 returns c = rw (c .before .before .frame .given .1) (omega arith)

@@ -37,7 +37,8 @@ same-length c = simp length-set
 
 returns : tie.Need-returns
 returns c =
-    let a = c .before .before .before .before .before .args in
+    let entry = c .before .before .before .before .before in
+    let a = entry .args in
     gate-by (a .out .now) (a .made) (a .pair) (c .before .code .ensures) (c .code2 .ensures)
 
 pub append-spec : {M : Type 1} → statement M

@@ -34,12 +34,16 @@ code-requires-2 c κs = search needs
 
 returns : tie.Need-returns
 returns c =
-    let a = c .before .before .before .before .before .before .before .before .args in
-    same-smaller (a .out .now) (a .k) (a .pair) (c .code2 .ensures) (c .before .before .before .code .ensures) (c .before .before .if1 .taken)
+    let if1At = c .before .before in
+    let codeAt = if1At .before in
+    let entry = codeAt .before .before .before .before .before in
+    let a = entry .args in
+    same-smaller (a .out .now) (a .k) (a .pair) (c .code2 .ensures) (codeAt .code .ensures) (if1At .if1 .taken)
 
 returns-2 : tie.Need-returns-2
 returns-2 c =
-    let a = c .before .before .before .before .before .before .args in
+    let entry = c .before .before .before .before .before .before in
+    let a = entry .args in
     other-smaller (a .out .now) (a .k) (a .pair) refl (c .before .code .ensures) (c .if1 .left)
 
 pub is-at-spec : {M : Type 1} → statement M

@@ -17,10 +17,14 @@ wide-requires : tie.Need-wide-requires
 wide-requires c κs = tt
 
 returns : tie.Need-returns
-returns c = no-gate _ _ (c .before .before .before .place-of .result) (c .before .wide .result) (c .before .before .before .place-of .ensures) (c .before .wide .ensures) (c .if1 .taken)
+returns c =
+    let placeOfAt = c .before .before .before in
+    no-gate _ _ (placeOfAt .place-of .result) (c .before .wide .result) (placeOfAt .place-of .ensures) (c .before .wide .ensures) (c .if1 .taken)
 
 returns-2 : tie.Need-returns-2
-returns-2 c = a-gate _ _ (c .before .before .before .place-of .result) (c .before .wide .result) (c .before .before .before .place-of .ensures) (c .before .wide .ensures) (c .if1 .left)
+returns-2 c =
+    let placeOfAt = c .before .before .before in
+    a-gate _ _ (placeOfAt .place-of .result) (c .before .wide .result) (placeOfAt .place-of .ensures) (c .before .wide .ensures) (c .if1 .left)
 
 pub gate-of-spec : {M : Type 1} → statement M
 gate-of-spec =

@@ -105,7 +105,8 @@ returns-2 c =
     let is-at = c .before .before in
     let read = is-at .before .before in
     let inv = read .before .before .before .loop .inv in
-    λ made m. seek-hit (inv .2 made m) (read .wide .ensures) (is-at .before .if1 .left) (is-at .is-at .ensures) (c .before .if2 .taken) (c .code-at .ensures)
+    λ made m. seek-hit (inv .2 made m) (read .wide .ensures) (is-at .before .if1 .left) (is-at .is-at .ensures) (c .before .if2 .taken)
+    (c .code-at .ensures)
 
 sub-link-of : tie.Need-sub-link-of Inv-loop μ-loop
 sub-link-of c = omega (arith, c .before .before .if1 .left)
@@ -131,7 +132,8 @@ loop-again c =
     let inv = read .before .before .before .loop .inv in (
       omega arith,
       inv .1,
-      λ made m. seek-on (inv .2 made m) (read .wide .ensures) (is-at .before .if1 .left) (is-at .is-at .ensures) (c .before .if2 .left) (c .link-of .ensures),
+      λ made m. seek-on (inv .2 made m) (read .wide .ensures) (is-at .before .if1 .left) (is-at .is-at .ensures)
+          (c .before .if2 .left) (c .link-of .ensures),
     )
 
 mul-wide-2 : tie.Need-mul-wide-2 Inv-loop μ-loop

@@ -13,8 +13,11 @@ same-length c = c .before .before .link .kept .1 .1 .1 .0
 
 returns : tie.Need-returns
 returns c =
-    let a = c .before .before .before .before .before .before .args in
-    is-linked (a .made) (a .place) (a .scratch .now) (a .shape .hash) (c .before .before .before .before .if1 .taken) (c .before .before .link .ensures)
+    let linkAt = c .before .before in
+    let if1At = linkAt .before .before in
+    let entry = if1At .before .before in
+    let a = entry .args in
+    is-linked (a .made) (a .place) (a .scratch .now) (a .shape .hash) (if1At .if1 .taken) (linkAt .link .ensures)
 
 returns-2 : tie.Need-returns-2
 returns-2 c =

@@ -14,18 +14,24 @@ enum-told : tie.Need-enum-told
 enum-told c = c .match .keys2
 
 found-if-requires : tie.Need-found-if-requires
-found-if-requires c κs = c .before .before .before .before .before .pre
+found-if-requires c κs =
+    let entry = c .before .before .before .before .before in
+    entry .pre
 
 returns : tie.Need-returns
 returns c =
-    let a = c .before .before .before .before .before .before .args in
-    λ made m. says-folded (a .shape) made (a .pair) (a .scratch .now) _ (sym (c .before .folded .given .1) ∙ c .before .before .before .folded-if .ensures)
+    let foldedIfAt = c .before .before .before in
+    let entry = foldedIfAt .before .before .before in
+    let a = entry .args in
+    λ made m. says-folded (a .shape) made (a .pair) (a .scratch .now) _ (sym (c .before .folded .given .1) ∙ foldedIfAt .folded-if .ensures)
 
 returns-2 : tie.Need-returns-2
 returns-2 c =
-    let a = c .before .before .before .before .before .before .args in
+    let foldedIfAt = c .before .before .before in
+    let entry = foldedIfAt .before .before .before in
+    let a = entry .args in
     λ made m. says-unfolded (a .shape) made (a .pair) (a .scratch .now) (c .found-if .result)
-    (sym (c .before .enum-told .given .1) ∙ c .before .before .before .folded-if .ensures) (c .found-if .ensures made m)
+    (sym (c .before .enum-told .given .1) ∙ foldedIfAt .folded-if .ensures) (c .found-if .ensures made m)
 
 pub already-spec : {M : Type 1} → statement M
 already-spec =

@@ -9,7 +9,8 @@ find-requires c κs = search needs
 
 returns : tie.Need-returns
 returns c =
-    let a = c .before .before .before .before .args in
+    let entry = c .before .before .before .before in
+    let a = entry .args in
     λ made m. says-made (a .shape) made (a .pair) (a .scratch .now) (c .find .result) (c .before .if1 .taken) (c .find .ensures made m)
 
 returns-2 : tie.Need-returns-2

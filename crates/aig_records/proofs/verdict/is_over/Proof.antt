@@ -16,7 +16,11 @@ index-requires-2 : tie.Need-index-requires-2
 index-requires-2 c κs = search needs
 
 returns : tie.Need-returns
-returns c = rw (c .before .before .index .ensures, c .index2 .ensures ∙ ap (λ (v : Var). v .0) (c .before .var .ensures)) (over-half (c .before .before .before .args .top .0) (c .before .before .before .args .lit .0))
+returns c =
+    let indexAt = c .before .before in
+    let entry = indexAt .before in
+    let a = entry .args in
+    rw (indexAt .index .ensures, c .index2 .ensures ∙ ap (λ (v : Var). v .0) (c .before .var .ensures)) (over-half (a .top .0) (a .lit .0))
 
 pub is-over-spec : {M : Type 1} → statement M
 is-over-spec = tie.close (tie.spec index-requires var-requires index-requires-2 returns)

@@ -8,10 +8,16 @@ sum-requires : tie.Need-sum-requires
 sum-requires c κs = search needs
 
 returns : tie.Need-returns
-returns c = shape-counts (c .before .before .before .args .circuit .counts) (c .before .before .before .args .states) (c .before .before .before .args .nexts) (c .before .before .before .args .roots) _ (c .before .sum .ensures) (c .if1 .taken)
+returns c =
+    let entry = c .before .before .before in
+    let a = entry .args in
+    shape-counts (a .circuit .counts) (a .states) (a .nexts) (a .roots) _ (c .before .sum .ensures) (c .if1 .taken)
 
 returns-2 : tie.Need-returns-2
-returns-2 c = shape-latches (c .before .before .before .args .circuit .counts) (c .before .before .before .args .states) (c .before .before .before .args .nexts) (c .before .before .before .args .roots) _ (c .before .sum .ensures) (c .if1 .left)
+returns-2 c =
+    let entry = c .before .before .before in
+    let a = entry .args in
+    shape-latches (a .circuit .counts) (a .states) (a .nexts) (a .roots) _ (c .before .sum .ensures) (c .if1 .left)
 
 pub is-unequal-spec : {M : Type 1} → statement M
 is-unequal-spec = tie.close (tie.spec sum-requires returns returns-2)

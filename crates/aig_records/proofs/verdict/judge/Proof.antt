@@ -19,7 +19,14 @@ refused-requires : tie.Need-refused-requires
 refused-requires c κs = search needs
 
 returns : tie.Need-returns
-returns c = c .refused .ensures ∙ judges-big (c .before .before .before .before .before .before .before .before .before .before .args .circuit) (now (c .before .before .before .before .before .before .before .before .before .before .args .inputs)) (now (c .before .before .before .before .before .before .before .before .before .before .args .states)) (now (c .before .before .before .before .before .before .before .before .before .before .args .nexts)) (now (c .before .before .before .before .before .before .before .before .before .before .args .roots)) (c .before .before .before .before .before .before .before .before .before .before .args .gates) (c .before .before .before .before .before .before .before .before .before .before .args .found) (c .before .before .before .before .before .before .before .before .before .before .args .rooms) _ (c .before .before .before .wide .ensures ∙ c .before .before .before .before .index .ensures) _ (c .before .before .too-big .ensures) (c .before .if1 .taken)
+returns c =
+    let tooBigAt = c .before .before in
+    let wideAt = tooBigAt .before in
+    let indexAt = wideAt .before in
+    let entry = indexAt .before .before .before .before .before .before in
+    let a = entry .args in
+    c .refused .ensures ∙ judges-big (a .circuit) (now (a .inputs)) (now (a .states)) (now (a .nexts)) (now (a .roots)) (a .gates) (a .found)
+    (a .rooms) _ (wideAt .wide .ensures ∙ indexAt .index .ensures) _ (tooBigAt .too-big .ensures) (c .before .if1 .taken)
 
 is-unequal-requires : tie.Need-is-unequal-requires
 is-unequal-requires c κs = search needs
@@ -28,16 +35,46 @@ refused-requires-2 : tie.Need-refused-requires-2
 refused-requires-2 c κs = search needs
 
 returns-2 : tie.Need-returns-2
-returns-2 c = c .refused2 .ensures ∙ judges-uneven (c .before .before .before .before .before .before .before .before .before .before .before .before .args .circuit) (now (c .before .before .before .before .before .before .before .before .before .before .before .before .args .inputs)) (now (c .before .before .before .before .before .before .before .before .before .before .before .before .args .states)) (now (c .before .before .before .before .before .before .before .before .before .before .before .before .args .nexts)) (now (c .before .before .before .before .before .before .before .before .before .before .before .before .args .roots)) (c .before .before .before .before .before .before .before .before .before .before .before .before .args .gates) (c .before .before .before .before .before .before .before .before .before .before .before .before .args .found) (c .before .before .before .before .before .before .before .before .before .before .before .before .args .rooms) _ (c .before .before .before .before .before .wide .ensures ∙ c .before .before .before .before .before .before .index .ensures) _ (c .before .before .before .before .too-big .ensures) (c .before .before .before .if1 .left) _ (c .before .before .is-unequal .ensures) (c .before .if2 .taken)
+returns-2 c =
+    let isUnequalAt = c .before .before in
+    let if1At = isUnequalAt .before in
+    let tooBigAt = if1At .before in
+    let wideAt = tooBigAt .before in
+    let indexAt = wideAt .before in
+    let entry = indexAt .before .before .before .before .before .before in
+    let a = entry .args in
+    c .refused2 .ensures ∙ judges-uneven (a .circuit) (now (a .inputs)) (now (a .states)) (now (a .nexts)) (now (a .roots)) (a .gates) (a .found)
+    (a .rooms) _ (wideAt .wide .ensures ∙ indexAt .index .ensures) _ (tooBigAt .too-big .ensures) (if1At .if1 .left) _
+    (isUnequalAt .is-unequal .ensures) (c .before .if2 .taken)
 
 is-short-requires : tie.Need-is-short-requires
-is-short-requires c κs = judges-small (c .before .before .before .before .before .before .before .before .before .before .before .args .circuit) (now (c .before .before .before .before .before .before .before .before .before .before .before .args .inputs)) (now (c .before .before .before .before .before .before .before .before .before .before .before .args .states)) (now (c .before .before .before .before .before .before .before .before .before .before .before .args .nexts)) (now (c .before .before .before .before .before .before .before .before .before .before .before .args .roots)) (c .before .before .before .before .before .before .before .before .before .before .before .args .gates) (c .before .before .before .before .before .before .before .before .before .before .before .args .found) (c .before .before .before .before .before .before .before .before .before .before .before .args .rooms) _ (c .before .before .before .before .wide .ensures ∙ c .before .before .before .before .before .index .ensures) _ (c .before .before .before .too-big .ensures) (c .before .before .if1 .left)
+is-short-requires c κs =
+    let if1At = c .before .before in
+    let tooBigAt = if1At .before in
+    let wideAt = tooBigAt .before in
+    let indexAt = wideAt .before in
+    let entry = indexAt .before .before .before .before .before .before in
+    let a = entry .args in
+    judges-small (a .circuit) (now (a .inputs)) (now (a .states)) (now (a .nexts)) (now (a .roots)) (a .gates) (a .found) (a .rooms) _
+    (wideAt .wide .ensures ∙ indexAt .index .ensures) _ (tooBigAt .too-big .ensures) (if1At .if1 .left)
 
 refused-requires-3 : tie.Need-refused-requires-3
 refused-requires-3 c κs = search needs
 
 returns-3 : tie.Need-returns-3
-returns-3 c = c .refused3 .ensures ∙ judges-short (c .before .before .before .before .before .before .before .before .before .before .before .before .before .before .args .circuit) (now (c .before .before .before .before .before .before .before .before .before .before .before .before .before .before .args .inputs)) (now (c .before .before .before .before .before .before .before .before .before .before .before .before .before .before .args .states)) (now (c .before .before .before .before .before .before .before .before .before .before .before .before .before .before .args .nexts)) (now (c .before .before .before .before .before .before .before .before .before .before .before .before .before .before .args .roots)) (c .before .before .before .before .before .before .before .before .before .before .before .before .before .before .args .gates) (c .before .before .before .before .before .before .before .before .before .before .before .before .before .before .args .found) (c .before .before .before .before .before .before .before .before .before .before .before .before .before .before .args .rooms) _ (c .before .before .before .before .before .before .before .wide .ensures ∙ c .before .before .before .before .before .before .before .before .index .ensures) _ (c .before .before .before .before .before .before .too-big .ensures) (c .before .before .before .before .before .if1 .left) _ (c .before .before .before .before .is-unequal .ensures) (c .before .before .before .if2 .left) _ (c .before .before .is-short .ensures) (c .before .if3 .taken)
+returns-3 c =
+    let isShortAt = c .before .before in
+    let if2At = isShortAt .before in
+    let isUnequalAt = if2At .before in
+    let if1At = isUnequalAt .before in
+    let tooBigAt = if1At .before in
+    let wideAt = tooBigAt .before in
+    let indexAt = wideAt .before in
+    let entry = indexAt .before .before .before .before .before .before in
+    let a = entry .args in
+    c .refused3 .ensures ∙ judges-short (a .circuit) (now (a .inputs)) (now (a .states)) (now (a .nexts)) (now (a .roots)) (a .gates) (a .found)
+    (a .rooms) _ (wideAt .wide .ensures ∙ indexAt .index .ensures) _ (tooBigAt .too-big .ensures) (if1At .if1 .left) _
+    (isUnequalAt .is-unequal .ensures) (if2At .if2 .left) _ (isShortAt .is-short .ensures) (c .before .if3 .taken)
 
 over-all-requires : tie.Need-over-all-requires
 over-all-requires c κs = search needs
@@ -52,10 +89,40 @@ enum-told : tie.Need-enum-told
 enum-told c = search needs
 
 returns-4 : tie.Need-returns-4
-returns-4 c = c .refused4 .ensures ∙ judges-over (c .before .before .before .before .before .before .before .before .before .before .before .before .before .before .before .before .before .before .args .circuit) (now (c .before .before .before .before .before .before .before .before .before .before .before .before .before .before .before .before .before .before .args .inputs)) (now (c .before .before .before .before .before .before .before .before .before .before .before .before .before .before .before .before .before .before .args .states)) (now (c .before .before .before .before .before .before .before .before .before .before .before .before .before .before .before .before .before .before .args .nexts)) (now (c .before .before .before .before .before .before .before .before .before .before .before .before .before .before .before .before .before .before .args .roots)) (c .before .before .before .before .before .before .before .before .before .before .before .before .before .before .before .before .before .before .args .gates) (c .before .before .before .before .before .before .before .before .before .before .before .before .before .before .before .before .before .before .args .found) (c .before .before .before .before .before .before .before .before .before .before .before .before .before .before .before .before .before .before .args .rooms) _ (c .before .before .before .before .before .before .before .before .before .before .before .wide .ensures ∙ c .before .before .before .before .before .before .before .before .before .before .before .before .index .ensures) _ (c .before .before .before .before .before .before .before .before .before .before .too-big .ensures) (c .before .before .before .before .before .before .before .before .before .if1 .left) _ (c .before .before .before .before .before .before .before .before .is-unequal .ensures) (c .before .before .before .before .before .before .before .if2 .left) _ (c .before .before .before .before .before .before .is-short .ensures) (c .before .before .before .before .before .if3 .left) _ (c .before .before .before .before .over-all .ensures) _ (c .before .before .first .given .1)
+returns-4 c =
+    let firstAt = c .before .before in
+    let overAllAt = firstAt .before .before in
+    let if3At = overAllAt .before in
+    let isShortAt = if3At .before in
+    let if2At = isShortAt .before in
+    let isUnequalAt = if2At .before in
+    let if1At = isUnequalAt .before in
+    let tooBigAt = if1At .before in
+    let wideAt = tooBigAt .before in
+    let indexAt = wideAt .before in
+    let entry = indexAt .before .before .before .before .before .before in
+    let a = entry .args in
+    c .refused4 .ensures ∙ judges-over (a .circuit) (now (a .inputs)) (now (a .states)) (now (a .nexts)) (now (a .roots)) (a .gates) (a .found)
+    (a .rooms) _ (wideAt .wide .ensures ∙ indexAt .index .ensures) _ (tooBigAt .too-big .ensures) (if1At .if1 .left) _
+    (isUnequalAt .is-unequal .ensures) (if2At .if2 .left) _ (isShortAt .is-short .ensures) (if3At .if3 .left) _ (overAllAt .over-all .ensures) _
+    (firstAt .first .given .1)
 
 returns-5 : tie.Need-returns-5
-returns-5 c = judges-passed (c .before .before .before .before .before .before .before .before .before .before .before .before .before .before .before .before .args .circuit) (now (c .before .before .before .before .before .before .before .before .before .before .before .before .before .before .before .before .args .inputs)) (now (c .before .before .before .before .before .before .before .before .before .before .before .before .before .before .before .before .args .states)) (now (c .before .before .before .before .before .before .before .before .before .before .before .before .before .before .before .before .args .nexts)) (now (c .before .before .before .before .before .before .before .before .before .before .before .before .before .before .before .before .args .roots)) (c .before .before .before .before .before .before .before .before .before .before .before .before .before .before .before .before .args .gates) (c .before .before .before .before .before .before .before .before .before .before .before .before .before .before .before .before .args .found) (c .before .before .before .before .before .before .before .before .before .before .before .before .before .before .before .before .args .rooms) _ (c .before .before .before .before .before .before .before .before .before .wide .ensures ∙ c .before .before .before .before .before .before .before .before .before .before .index .ensures) _ (c .before .before .before .before .before .before .before .before .too-big .ensures) (c .before .before .before .before .before .before .before .if1 .left) _ (c .before .before .before .before .before .before .is-unequal .ensures) (c .before .before .before .before .before .if2 .left) _ (c .before .before .before .before .is-short .ensures) (c .before .before .before .if3 .left) _ (c .before .before .over-all .ensures) (cc)
+returns-5 c =
+    let overAllAt = c .before .before in
+    let if3At = overAllAt .before in
+    let isShortAt = if3At .before in
+    let if2At = isShortAt .before in
+    let isUnequalAt = if2At .before in
+    let if1At = isUnequalAt .before in
+    let tooBigAt = if1At .before in
+    let wideAt = tooBigAt .before in
+    let indexAt = wideAt .before in
+    let entry = indexAt .before .before .before .before .before .before in
+    let a = entry .args in
+    judges-passed (a .circuit) (now (a .inputs)) (now (a .states)) (now (a .nexts)) (now (a .roots)) (a .gates) (a .found) (a .rooms) _
+    (wideAt .wide .ensures ∙ indexAt .index .ensures) _ (tooBigAt .too-big .ensures) (if1At .if1 .left) _ (isUnequalAt .is-unequal .ensures)
+    (if2At .if2 .left) _ (isShortAt .is-short .ensures) (if3At .if3 .left) _ (overAllAt .over-all .ensures) (cc)
 
 pub judge-spec : {M : Type 1} → statement M
 judge-spec =

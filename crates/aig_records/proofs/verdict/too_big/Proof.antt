@@ -5,19 +5,31 @@ use native.Mathlib.Omega.{arith}
 use Rattle.aig_records.proofs.Sizes.{big-top, big-inputs, big-states, big-gates, big-roots}
 
 returns : tie.Need-returns
-returns c = big-top (c .before .args .top) (c .before .args .inputs) (c .before .args .states) (c .before .args .gates) (c .before .args .roots) (omega arith)
+returns c =
+    big-top (c .before .args .top) (c .before .args .inputs) (c .before .args .states) (c .before .args .gates) (c .before .args .roots) (omega arith)
 
 returns-2 : tie.Need-returns-2
-returns-2 c = big-inputs (c .before .before .args .top) (c .before .before .args .inputs) (c .before .before .args .states) (c .before .before .args .gates) (c .before .before .args .roots) (omega arith) (omega arith)
+returns-2 c =
+    big-inputs (c .before .before .args .top) (c .before .before .args .inputs) (c .before .before .args .states) (c .before .before .args .gates)
+    (c .before .before .args .roots) (omega arith) (omega arith)
 
 returns-3 : tie.Need-returns-3
-returns-3 c = big-states (c .before .before .before .args .top) (c .before .before .before .args .inputs) (c .before .before .before .args .states) (c .before .before .before .args .gates) (c .before .before .before .args .roots) (omega arith) (omega arith) (omega arith)
+returns-3 c =
+    let entry = c .before .before .before in
+    let a = entry .args in
+    big-states (a .top) (a .inputs) (a .states) (a .gates) (a .roots) (omega arith) (omega arith) (omega arith)
 
 returns-4 : tie.Need-returns-4
-returns-4 c = big-gates (c .before .before .before .before .args .top) (c .before .before .before .before .args .inputs) (c .before .before .before .before .args .states) (c .before .before .before .before .args .gates) (c .before .before .before .before .args .roots) (omega arith) (omega arith) (omega arith) (omega arith)
+returns-4 c =
+    let entry = c .before .before .before .before in
+    let a = entry .args in
+    big-gates (a .top) (a .inputs) (a .states) (a .gates) (a .roots) (omega arith) (omega arith) (omega arith) (omega arith)
 
 returns-5 : tie.Need-returns-5
-returns-5 c = big-roots (c .before .before .before .before .args .top) (c .before .before .before .before .args .inputs) (c .before .before .before .before .args .states) (c .before .before .before .before .args .gates) (c .before .before .before .before .args .roots) (omega arith) (omega arith) (omega arith) (omega arith)
+returns-5 c =
+    let entry = c .before .before .before .before in
+    let a = entry .args in
+    big-roots (a .top) (a .inputs) (a .states) (a .gates) (a .roots) (omega arith) (omega arith) (omega arith) (omega arith)
 
 pub too-big-spec : {M : Type 1} → statement M
 too-big-spec = tie.close (tie.spec returns returns-2 returns-3 returns-4 returns-5)

@@ -43,10 +43,21 @@ report-requires : tie.Need-report-requires
 report-requires c κs = search needs
 
 array-share-prefix-out : tie.Need-array-share-prefix-out
-array-share-prefix-out c = whole _ (c .before .report .last .1 .0) _ (c .before .report .ensures .1) (c .before .report .kept .1 .0 ∙ sym (c .before .before .before .before .report-room .ensures))
+array-share-prefix-out c =
+    let reportAt = c .before in
+    let reportRoomAt = reportAt .before .before .before in
+    let reportOut = reportAt .report .last .1 .0 in
+    let reportOutKept = reportAt .report .kept .1 .0 in
+    whole _ (reportOut) _ (reportAt .report .ensures .1) (reportOutKept ∙ sym (reportRoomAt .report-room .ensures))
 
 slice-aggregate-text : tie.Need-slice-aggregate-text
-slice-aggregate-text c = sym (length-take-le _ (c .before .before .report .last .1 .0) (whole _ (c .before .before .report .last .1 .0) _ (c .before .before .report .ensures .1) (c .before .before .report .kept .1 .0 ∙ sym (c .before .before .before .before .before .report-room .ensures))))
+slice-aggregate-text c =
+    let reportAt = c .before .before in
+    let reportRoomAt = reportAt .before .before .before in
+    let reportOut = reportAt .report .last .1 .0 in
+    let reportOutKept = reportAt .report .kept .1 .0 in
+    sym (length-take-le _ (reportOut) (whole _ (reportOut) _ (reportAt .report .ensures .1)
+    (reportOutKept ∙ sym (reportRoomAt .report-room .ensures))))
 
 text-requires : tie.Need-text-requires
 text-requires c κs = search needs

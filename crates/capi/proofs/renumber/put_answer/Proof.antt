@@ -10,7 +10,9 @@ index-requires : tie.Need-index-requires
 index-requires c κs = tt
 
 put-words-requires : tie.Need-put-words-requires
-put-words-requires c κs = c .before .before .before .before .before .before .before .pre
+put-words-requires c κs =
+    let entry = c .before .before .before .before .before .before .before in
+    entry .pre
 
 enum-known-said-2 : tie.Need-enum-known-said-2
 enum-known-said-2 c = c .match .keys2
@@ -22,7 +24,9 @@ code-requires : tie.Need-code-requires
 code-requires c κs = tt
 
 put-words-requires-2 : tie.Need-put-words-requires-2
-put-words-requires-2 c κs = c .before .before .before .before .before .before .before .pre
+put-words-requires-2 c κs =
+    let entry = c .before .before .before .before .before .before .before in
+    entry .pre
 
 number-requires : tie.Need-number-requires
 number-requires c κs = tt
@@ -31,13 +35,23 @@ same-length : tie.Need-same-length
 same-length c = c .before .before .put-words .kept .0
 
 returns : tie.Need-returns
-returns c = said-made _ _ _ _ _ (c .before .before .before .before .before .before .before .said .given .1) (c .before .before .before .index .ensures) (c .before .before .put-words .ensures)
+returns c =
+    let putWordsAt = c .before .before in
+    let indexAt = putWordsAt .before in
+    let saidAt = indexAt .before .before .before .before in
+    said-made _ _ _ _ _ (saidAt .said .given .1) (indexAt .index .ensures) (putWordsAt .put-words .ensures)
 
 same-length-2 : tie.Need-same-length-2
 same-length-2 c = c .before .before .before .put-words2 .kept .0
 
 returns-2 : tie.Need-returns-2
-returns-2 c = said-refused _ _ _ _ _ _ _ (c .before .before .before .before .before .before .before .before .said2 .given .1) (c .number .ensures) (c .before .before .before .before .code .ensures) (c .before .before .before .before .before .before .literal .ensures) (c .before .before .before .put-words2 .ensures)
+returns-2 c =
+    let putWords2At = c .before .before .before in
+    let codeAt = putWords2At .before in
+    let literalAt = codeAt .before .before in
+    let said2At = literalAt .before .before in
+    said-refused _ _ _ _ _ _ _ (said2At .said2 .given .1) (c .number .ensures) (codeAt .code .ensures) (literalAt .literal .ensures)
+    (putWords2At .put-words2 .ensures)
 
 pub put-answer-spec : {M : Type 1} → statement M
 put-answer-spec =

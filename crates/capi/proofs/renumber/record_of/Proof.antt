@@ -23,7 +23,11 @@ shared-slice-read-t14 : tie.Need-shared-slice-read-t14
 shared-slice-read-t14 c = search needs
 
 returns : tie.Need-returns
-returns c = let a = c .before .before .before .before .before .before .before .args in record-same (a .counts .now) (a .top) (a .flags) _ (c .before .before .before .before .before .before .before .pre) (c .before .before .before .before .before .from-index .ensures)
+returns c =
+    let fromIndexAt = c .before .before .before .before .before in
+    let entry = fromIndexAt .before .before in
+    let a = entry .args in
+    record-same (a .counts .now) (a .top) (a .flags) _ (entry .pre) (fromIndexAt .from-index .ensures)
 
 pub record-of-spec : {M : Type 1} → statement M
 record-of-spec =

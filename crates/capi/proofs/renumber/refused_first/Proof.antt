@@ -6,7 +6,10 @@ use Rattle.capi.proofs.renumber.refused_first.Statement.{statement}
 use Rattle.capi.proofs.renumber.refused_first.Tie as tie
 
 returns : tie.Need-returns
-returns c = let a = c .before .before .before .args in first-short (now (a .counts)) (a .flags) (now (a .answer)) (c .if1 .taken)
+returns c =
+    let entry = c .before .before .before in
+    let a = entry .args in
+    first-short (now (a .counts)) (a .flags) (now (a .answer)) (c .if1 .taken)
 
 is-misgiven-requires : tie.Need-is-misgiven-requires
 is-misgiven-requires c κs = tt
@@ -18,10 +21,22 @@ same-length : tie.Need-same-length
 same-length c = c .before .before .put-words .kept .0
 
 returns-2 : tie.Need-returns-2
-returns-2 c = let a = c .before .before .before .before .before .before .before .before .before .args in first-misgiven (now (a .counts)) (a .flags) (now (a .answer)) (c .before .before .before .before .before .before .if1 .left) (sym (c .before .before .before .before .before .is-misgiven .ensures) ∙ c .before .before .before .before .if2 .taken) _ (c .before .before .put-words .ensures)
+returns-2 c =
+    let putWordsAt = c .before .before in
+    let if2At = putWordsAt .before .before in
+    let isMisgivenAt = if2At .before in
+    let if1At = isMisgivenAt .before in
+    let entry = if1At .before .before .before in
+    let a = entry .args in
+    first-misgiven (now (a .counts)) (a .flags) (now (a .answer)) (if1At .if1 .left) (sym (isMisgivenAt .is-misgiven .ensures) ∙ if2At .if2 .taken) _
+    (putWordsAt .put-words .ensures)
 
 returns-3 : tie.Need-returns-3
-returns-3 c = let a = c .before .before .before .before .before .args in first-none (now (a .counts)) (a .flags) (now (a .answer)) (c .before .before .if1 .left) (sym (c .before .is-misgiven .ensures) ∙ c .if2 .left)
+returns-3 c =
+    let if1At = c .before .before in
+    let entry = if1At .before .before .before in
+    let a = entry .args in
+    first-none (now (a .counts)) (a .flags) (now (a .answer)) (if1At .if1 .left) (sym (c .before .is-misgiven .ensures) ∙ c .if2 .left)
 
 pub refused-first-spec : {M : Type 1} → statement M
 refused-first-spec =

@@ -18,17 +18,42 @@ from-code-requires c κs = search needs
 
 returns : tie.Need-returns
 returns c =
-    let a = c .before .before .before .before .before .before .args in
-    ap Code (c .from-code .ensures) ∙ (⊎-elim (λ w. zero-larger (a .self .larger .0) (a .self .smaller .0) _ _ (c .before .before .before .code .ensures) (c .before .before .code2 .ensures) (w .taken)) (λ w. zero-smaller (a .self .larger .0) (a .self .smaller .0) _ _ (c .before .before .before .code .ensures) (c .before .before .code2 .ensures) (w .0 .left) (w .1 .taken)) (c .before .if1 .came))
+    let code2At = c .before .before in
+    let codeAt = code2At .before in
+    let entry = codeAt .before .before .before in
+    let a = entry .args in
+    ap Code (c .from-code .ensures) ∙ (⊎-elim (λ w. zero-larger (a .self .larger .0) (a .self .smaller .0) _ _ (codeAt .code .ensures)
+    (code2At .code2 .ensures) (w .taken)) (λ w. zero-smaller (a .self .larger .0) (a .self .smaller .0) _ _ (codeAt .code .ensures)
+    (code2At .code2 .ensures) (w .0 .left) (w .1 .taken)) (c .before .if1 .came))
 
 returns-2 : tie.Need-returns-2
-returns-2 c = ⊎-elim (λ w. one-larger _ _ _ _ (c .before .before .before .before .code .ensures) (c .before .before .before .code2 .ensures) (c .before .before .if1 .left) (c .before .if2 .left) (w .taken)) (λ w. both-equal _ _ _ _ (c .before .before .before .before .code .ensures) (c .before .before .before .code2 .ensures) (c .before .before .if1 .left) (c .before .if2 .left) (w .0 .left) (w .1 .taken)) (c .if3 .came)
+returns-2 c =
+    let if1At = c .before .before in
+    let code2At = if1At .before in
+    let codeAt = code2At .before in
+    ⊎-elim (λ w. one-larger _ _ _ _ (codeAt .code .ensures) (code2At .code2 .ensures) (if1At .if1 .left) (c .before .if2 .left) (w .taken))
+    (λ w. both-equal _ _ _ _ (codeAt .code .ensures) (code2At .code2 .ensures) (if1At .if1 .left) (c .before .if2 .left) (w .0 .left) (w .1 .taken))
+    (c .if3 .came)
 
 returns-3 : tie.Need-returns-3
-returns-3 c = one-smaller _ _ _ _ (c .before .before .before .before .before .before .code .ensures) (c .before .before .before .before .before .code2 .ensures) (c .before .before .before .before .if1 .left) (c .before .before .before .if2 .left) (c .before .before .if3 .left) (c .before .if4 .left) (c .if5 .taken)
+returns-3 c =
+    let if3At = c .before .before in
+    let if2At = if3At .before in
+    let if1At = if2At .before in
+    let code2At = if1At .before in
+    let codeAt = code2At .before in
+    one-smaller _ _ _ _ (codeAt .code .ensures) (code2At .code2 .ensures) (if1At .if1 .left) (if2At .if2 .left) (if3At .if3 .left)
+    (c .before .if4 .left) (c .if5 .taken)
 
 returns-4 : tie.Need-returns-4
-returns-4 c = no-row _ _ _ _ (c .before .before .before .before .before .before .code .ensures) (c .before .before .before .before .before .code2 .ensures) (c .before .before .before .before .if1 .left) (c .before .before .before .if2 .left) (c .before .before .if3 .left) (c .before .if4 .left) (c .if5 .left)
+returns-4 c =
+    let if3At = c .before .before in
+    let if2At = if3At .before in
+    let if1At = if2At .before in
+    let code2At = if1At .before in
+    let codeAt = code2At .before in
+    no-row _ _ _ _ (codeAt .code .ensures) (code2At .code2 .ensures) (if1At .if1 .left) (if2At .if2 .left) (if3At .if3 .left) (c .before .if4 .left)
+    (c .if5 .left)
 
 pub folded-spec : {M : Type 1} → statement M
 folded-spec =

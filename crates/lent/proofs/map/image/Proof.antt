@@ -17,7 +17,10 @@ shared-slice-read-entry : tie.Need-shared-slice-read-entry
 shared-slice-read-entry c = search needs
 
 returns : tie.Need-returns
-returns c = image-none _ _ (c .before .before .before .place-of .result) (c .before .before .before .place-of .ensures) (c .before .before .if1 .taken) (c .if2 .taken)
+returns c =
+    let if1At = c .before .before in
+    let placeOfAt = if1At .before in
+    image-none _ _ (placeOfAt .place-of .result) (placeOfAt .place-of .ensures) (if1At .if1 .taken) (c .if2 .taken)
 
 from-code-requires : tie.Need-from-code-requires
 from-code-requires c κs = tt
@@ -26,7 +29,13 @@ flipped-requires : tie.Need-flipped-requires
 flipped-requires c κs = tt
 
 returns-2 : tie.Need-returns-2
-returns-2 c = image-some _ _ (c .before .before .before .before .before .place-of .result) _ (c .before .before .before .before .before .place-of .ensures) (c .before .before .before .before .if1 .taken) (c .before .before .if2 .left) (c .flipped .ensures ∙ ap (λ (t : Lit). flippedBy t (c .before .before .before .before .before .before .before .args .lit)) (c .before .from-code .ensures))
+returns-2 c =
+    let if2At = c .before .before in
+    let if1At = if2At .before .before in
+    let placeOfAt = if1At .before in
+    let entry = placeOfAt .before .before in
+    image-some _ _ (placeOfAt .place-of .result) _ (placeOfAt .place-of .ensures) (if1At .if1 .taken) (if2At .if2 .left)
+    (c .flipped .ensures ∙ ap (λ (t : Lit). flippedBy t (entry .args .lit)) (c .before .from-code .ensures))
 
 returns-3 : tie.Need-returns-3
 returns-3 c = image-past _ _ (c .before .place-of .result) (c .before .place-of .ensures) (c .if1 .left)

@@ -25,7 +25,9 @@ same-length : tie.Need-same-length
 same-length c = search needs
 
 returns : tie.Need-returns
-returns c = store-within _ _ _ _ _ (c .before .before .before .place-of .ensures) (c .code .ensures ∙ ap (λ (t : Lit). t .0) (c .before .flipped .ensures))
+returns c =
+    let placeOfAt = c .before .before .before in
+    store-within _ _ _ _ _ (placeOfAt .place-of .ensures) (c .code .ensures ∙ ap (λ (t : Lit). t .0) (c .before .flipped .ensures))
 
 returns-2 : tie.Need-returns-2
 returns-2 c = store-past _ _ _ (c .before .place-of .result) (c .before .place-of .ensures) (c .if1 .left)

@@ -13,7 +13,12 @@ same-length : tie.Need-same-length
 same-length c = c .before .before .fill-front .kept .0
 
 returns : tie.Need-returns
-returns c = c .before .before .fill-front .ensures ∙ over-whole (replicate (length (now (c .before .before .before .before .before .args .words))) (c .before .before .before .before .before .args .value)) (now (c .before .before .before .before .before .args .words)) (length-replicate (length (now (c .before .before .before .before .before .args .words))) _)
+returns c =
+    let fillFrontAt = c .before .before in
+    let entry = fillFrontAt .before .before .before in
+    let a = entry .args in
+    fillFrontAt .fill-front .ensures ∙ over-whole (replicate (length (now (a .words))) (a .value)) (now (a .words))
+    (length-replicate (length (now (a .words))) _)
 
 pub fill-spec : {M : Type 1} → statement M
 fill-spec = tie.close (tie.spec fill-front-requires same-length returns)

@@ -24,7 +24,10 @@ shared-slice-read-words : tie.Need-shared-slice-read-words Inv-loop μ-loop
 shared-slice-read-words c = omega (arith, c .before .before .loop .inv .same)
 
 cast-words : tie.Need-cast-words Inv-loop μ-loop
-cast-words c = record { fits = c .before .before .before .pre .1 (c .before .before .loop .i) (omega (arith, c .before .before .loop .inv .same)) }
+cast-words c =
+    let loopAt = c .before .before in
+    let entry = loopAt .before in
+    record { fits = entry .pre .1 (loopAt .loop .i) (omega (arith, loopAt .loop .inv .same)) }
 
 mul-words-2 : tie.Need-mul-words-2 Inv-loop μ-loop
 mul-words-2 c = search needs

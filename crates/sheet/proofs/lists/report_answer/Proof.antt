@@ -1,4 +1,5 @@
--- `lists::report_answer` meets its contract: the circuit passes checks 1 to 3, and what renumbering leaves in the lists is the ordered circuit that is printed. Assumes nothing.
+-- `lists::report_answer` meets its contract: the circuit passes checks 1 to 3, and what renumbering leaves in the lists is the ordered circuit that
+-- is printed. Assumes nothing.
 use native.Mathlib.Omega.{arith}
 use mathlib.Core.Path.{sym}
 use lib.Seq.{length-take-le}
@@ -19,7 +20,12 @@ enum-known-answer : tie.Need-enum-known-answer
 enum-known-answer c = search needs
 
 cast-input-count : tie.Need-cast-input-count
-cast-input-count c = omega (arith, c .before .before .before .before .before .before .before .before .before .before .before .before .before .before .before .before .before .before .before .before .before .before .before .before .before .before .before .before .before .before .before .before .pre .0 .inputs, bounds (c .before .before .before .before .before .before .before .before .before .before .before .before .before .before .before .before .before .before .before .before .before .before .before .before .before .before .before .before .before .before .before .before .pre .0 .taken))
+cast-input-count c =
+    let entry =
+    c .before .before .before .before .before .before .before .before .before .before .before .before .before .before
+    .before .before .before .before .before .before .before .before .before .before .before .before .before .before .before .before
+    .before .before in
+    omega (arith, entry .pre .0 .inputs, bounds (entry .pre .0 .taken))
 
 cast-gate-words : tie.Need-cast-gate-words
 cast-gate-words c = search needs
@@ -28,22 +34,74 @@ mul-gate-words : tie.Need-mul-gate-words
 mul-gate-words c = search needs
 
 slice-reshare-prefix-print-ordered : tie.Need-slice-reshare-prefix-print-ordered
-slice-reshare-prefix-print-ordered c = omega (arith, c .before .before .before .before .before .before .before .before .before .before .before .before .before .before .renumber .kept .1 .1 .1 .1 .1 .1 .1 .0, c .before .before .before .before .before .before .before .before .before .before .before .before .before .before .before .before .before .before .before .before .before .before .before .before .before .before .before .before .before .before .before .before .before .pre .1 .nextImages, c .before .before .before .before .before .before .before .before .before .before .before .before .before .before .before .before .before .before .before .before .before .before .before .before .before .before .before .before .before .before .before .before .before .pre .0 .states, bounds (c .before .before .before .before .before .before .before .before .before .before .before .before .before .before .before .before .before .before .before .before .before .before .before .before .before .before .before .before .before .before .before .before .before .pre .0 .taken))
+slice-reshare-prefix-print-ordered c =
+    let renumberAt = c .before .before .before .before .before .before .before .before .before .before .before .before .before .before in
+    let entry =
+    renumberAt .before .before .before .before .before .before .before .before .before .before .before .before .before .before
+    .before .before .before .before .before in
+    let renumberNextImagesKept = renumberAt .renumber .kept .1 .1 .1 .1 .1 .1 .1 .0 in
+    omega (arith, renumberNextImagesKept, entry .pre .1 .nextImages, entry .pre .0 .states, bounds (entry .pre .0 .taken))
 
 slice-aggregate-print-ordered : tie.Need-slice-aggregate-print-ordered
-slice-aggregate-print-ordered c = sym (length-take-le _ _ (omega (arith, c .before .before .before .before .before .before .before .before .before .before .before .before .before .before .before .renumber .kept .1 .1 .1 .1 .1 .1 .1 .0, c .before .before .before .before .before .before .before .before .before .before .before .before .before .before .before .before .before .before .before .before .before .before .before .before .before .before .before .before .before .before .before .before .before .before .pre .1 .nextImages, c .before .before .before .before .before .before .before .before .before .before .before .before .before .before .before .before .before .before .before .before .before .before .before .before .before .before .before .before .before .before .before .before .before .before .pre .0 .states, bounds (c .before .before .before .before .before .before .before .before .before .before .before .before .before .before .before .before .before .before .before .before .before .before .before .before .before .before .before .before .before .before .before .before .before .before .pre .0 .taken))))
+slice-aggregate-print-ordered c =
+    let renumberAt = c .before .before .before .before .before .before .before .before .before .before .before .before .before .before .before in
+    let entry =
+    renumberAt .before .before .before .before .before .before .before .before .before .before .before .before .before .before
+    .before .before .before .before .before in
+    let renumberNextImagesKept = renumberAt .renumber .kept .1 .1 .1 .1 .1 .1 .1 .0 in
+    sym (length-take-le _ _ (omega (arith, renumberNextImagesKept, entry .pre .1 .nextImages, entry .pre .0 .states, bounds (entry .pre .0 .taken))))
 
 slice-reshare-prefix-print-ordered-2 : tie.Need-slice-reshare-prefix-print-ordered-2
-slice-reshare-prefix-print-ordered-2 c = omega (arith, c .before .before .before .before .before .before .before .before .before .before .before .before .before .before .before .renumber .kept .1 .1 .1 .1 .1 .1 .1 .1 .1 .0, c .before .before .before .before .before .before .before .before .before .before .before .before .before .before .before .before .before .before .before .before .before .before .before .before .before .before .before .before .before .before .before .before .before .before .pre .1 .gatesOut, given-made _ _ _ _ _ _ _ _ _ _ _ (c .before .before .before .before .before .before .before .before .before .before .before .before .before .before .before .before .before .before .before .before .before .before .before .before .before .before .before .before .before .before .before .before .before .before .pre .0) (c .before .before .before .before .before .before .before .before .before .before .before .before .before .before .before .before .before .before .before .before .before .before .before .before .before .before .before .before .before .before .before .before .before .before .pre .1) _ _ _ _ _ _ _ (c .before .before .before .before .before .before .before .before .before .before .before .before .before .before .before .before .before .before .before .before .before .circuit-on .ensures) (c .before .before .before .before .before .before .before .before .before .before .before .before .before .before .before .renumber .ensures) _ (c .before .before .before .answer .given .1))
+slice-reshare-prefix-print-ordered-2 c =
+    let answerAt = c .before .before .before in
+    let renumberAt = answerAt .before .before .before .before .before .before .before .before .before .before .before .before in
+    let circuitOnAt = renumberAt .before .before .before .before .before .before in
+    let entry = circuitOnAt .before .before .before .before .before .before .before .before .before .before .before .before .before in
+    let renumberGatesOutKept = renumberAt .renumber .kept .1 .1 .1 .1 .1 .1 .1 .1 .1 .0 in
+    omega (
+      arith,
+      renumberGatesOutKept,
+      entry .pre .1 .gatesOut,
+      given-made _ _ _ _ _ _ _ _ _ _ _ (entry .pre .0) (entry .pre .1) _ _ _ _ _ _ _
+          (circuitOnAt .circuit-on .ensures) (renumberAt .renumber .ensures) _ (answerAt .answer .given .1),
+    )
 
 slice-aggregate-print-ordered-2 : tie.Need-slice-aggregate-print-ordered-2
-slice-aggregate-print-ordered-2 c = sym (length-take-le _ _ (omega (arith, c .before .before .before .before .before .before .before .before .before .before .before .before .before .before .before .before .renumber .kept .1 .1 .1 .1 .1 .1 .1 .1 .1 .0, c .before .before .before .before .before .before .before .before .before .before .before .before .before .before .before .before .before .before .before .before .before .before .before .before .before .before .before .before .before .before .before .before .before .before .before .pre .1 .gatesOut, given-made _ _ _ _ _ _ _ _ _ _ _ (c .before .before .before .before .before .before .before .before .before .before .before .before .before .before .before .before .before .before .before .before .before .before .before .before .before .before .before .before .before .before .before .before .before .before .before .pre .0) (c .before .before .before .before .before .before .before .before .before .before .before .before .before .before .before .before .before .before .before .before .before .before .before .before .before .before .before .before .before .before .before .before .before .before .before .pre .1) _ _ _ _ _ _ _ (c .before .before .before .before .before .before .before .before .before .before .before .before .before .before .before .before .before .before .before .before .before .before .circuit-on .ensures) (c .before .before .before .before .before .before .before .before .before .before .before .before .before .before .before .before .renumber .ensures) _ (c .before .before .before .before .answer .given .1))))
+slice-aggregate-print-ordered-2 c =
+    let answerAt = c .before .before .before .before in
+    let renumberAt = answerAt .before .before .before .before .before .before .before .before .before .before .before .before in
+    let circuitOnAt = renumberAt .before .before .before .before .before .before in
+    let entry = circuitOnAt .before .before .before .before .before .before .before .before .before .before .before .before .before in
+    let renumberGatesOutKept = renumberAt .renumber .kept .1 .1 .1 .1 .1 .1 .1 .1 .1 .0 in
+    sym (length-take-le _ _ (omega (
+      arith,
+      renumberGatesOutKept,
+      entry .pre .1 .gatesOut,
+      given-made _ _ _ _ _ _ _ _ _ _ _ (entry .pre .0)
+          (entry .pre .1) _ _ _ _ _ _ _ (circuitOnAt .circuit-on .ensures) (renumberAt .renumber .ensures) _ (answerAt .answer .given .1),
+    )))
 
 slice-reshare-prefix-print-ordered-3 : tie.Need-slice-reshare-prefix-print-ordered-3
-slice-reshare-prefix-print-ordered-3 c = omega (arith, c .before .before .before .before .before .before .before .before .before .before .before .before .before .before .before .before .renumber .kept .1 .1 .1 .1 .1 .1 .1 .1 .0, c .before .before .before .before .before .before .before .before .before .before .before .before .before .before .before .before .before .before .before .before .before .before .before .before .before .before .before .before .before .before .before .before .before .before .before .pre .1 .rootImages, c .before .before .before .before .before .before .before .before .before .before .before .before .before .before .before .before .before .before .before .before .before .before .before .before .before .before .before .before .before .before .before .before .before .before .before .pre .0 .roots, bounds (c .before .before .before .before .before .before .before .before .before .before .before .before .before .before .before .before .before .before .before .before .before .before .before .before .before .before .before .before .before .before .before .before .before .before .before .pre .0 .taken))
+slice-reshare-prefix-print-ordered-3 c =
+    let renumberAt =
+    c .before .before .before .before .before .before .before .before .before .before .before .before .before .before
+    .before .before in
+    let entry =
+    renumberAt .before .before .before .before .before .before .before .before .before .before .before .before .before .before
+    .before .before .before .before .before in
+    let renumberRootImagesKept = renumberAt .renumber .kept .1 .1 .1 .1 .1 .1 .1 .1 .0 in
+    omega (arith, renumberRootImagesKept, entry .pre .1 .rootImages, entry .pre .0 .roots, bounds (entry .pre .0 .taken))
 
 slice-aggregate-print-ordered-3 : tie.Need-slice-aggregate-print-ordered-3
-slice-aggregate-print-ordered-3 c = sym (length-take-le _ _ (omega (arith, c .before .before .before .before .before .before .before .before .before .before .before .before .before .before .before .before .before .renumber .kept .1 .1 .1 .1 .1 .1 .1 .1 .0, c .before .before .before .before .before .before .before .before .before .before .before .before .before .before .before .before .before .before .before .before .before .before .before .before .before .before .before .before .before .before .before .before .before .before .before .before .pre .1 .rootImages, c .before .before .before .before .before .before .before .before .before .before .before .before .before .before .before .before .before .before .before .before .before .before .before .before .before .before .before .before .before .before .before .before .before .before .before .before .pre .0 .roots, bounds (c .before .before .before .before .before .before .before .before .before .before .before .before .before .before .before .before .before .before .before .before .before .before .before .before .before .before .before .before .before .before .before .before .before .before .before .before .pre .0 .taken))))
+slice-aggregate-print-ordered-3 c =
+    let renumberAt =
+    c .before .before .before .before .before .before .before .before .before .before .before .before .before .before
+    .before .before .before in
+    let entry =
+    renumberAt .before .before .before .before .before .before .before .before .before .before .before .before .before .before
+    .before .before .before .before .before in
+    let renumberRootImagesKept = renumberAt .renumber .kept .1 .1 .1 .1 .1 .1 .1 .1 .0 in
+    sym (length-take-le _ _ (omega (arith, renumberRootImagesKept, entry .pre .1 .rootImages, entry .pre .0 .roots, bounds (entry .pre .0 .taken))))
 
 print-ordered-requires : tie.Need-print-ordered-requires
 print-ordered-requires c κs = search needs
@@ -73,7 +131,14 @@ same-length-6 : tie.Need-same-length-6
 same-length-6 c = search needs
 
 returns : tie.Need-returns
-returns c = put-same (c .before .before .print-ordered .ensures) (given-ordered _ _ _ _ _ _ _ _ _ _ _ (c .before .before .before .before .before .before .before .before .before .before .before .before .before .before .before .before .before .before .before .before .before .before .before .before .before .before .before .before .before .before .before .before .before .before .before .before .before .before .before .before .pre .0) (c .before .before .before .before .before .before .before .before .before .before .before .before .before .before .before .before .before .before .before .before .before .before .before .before .before .before .before .before .before .before .before .before .before .before .before .before .before .before .before .before .pre .1) _ _ _ _ _ _ _ (c .before .before .before .before .before .before .before .before .before .before .before .before .before .before .before .before .before .before .before .before .before .before .before .before .before .before .before .circuit-on .ensures) (c .before .before .before .before .before .before .before .before .before .before .before .before .before .before .before .before .before .before .before .before .before .renumber .ensures) _ (c .before .before .before .before .before .before .before .before .before .answer .given .1))
+returns c =
+    let printOrderedAt = c .before .before in
+    let answerAt = printOrderedAt .before .before .before .before .before .before .before in
+    let renumberAt = answerAt .before .before .before .before .before .before .before .before .before .before .before .before in
+    let circuitOnAt = renumberAt .before .before .before .before .before .before in
+    let entry = circuitOnAt .before .before .before .before .before .before .before .before .before .before .before .before .before in
+    put-same (printOrderedAt .print-ordered .ensures) (given-ordered _ _ _ _ _ _ _ _ _ _ _ (entry .pre .0) (entry .pre .1) _ _ _ _ _ _ _
+    (circuitOnAt .circuit-on .ensures) (renumberAt .renumber .ensures) _ (answerAt .answer .given .1))
 
 same-length-7 : tie.Need-same-length-7
 same-length-7 c = search needs
@@ -94,7 +159,14 @@ same-length-12 : tie.Need-same-length-12
 same-length-12 c = search needs
 
 returns-2 : tie.Need-returns-2
-returns-2 c = put-same (c .before .before .print-refused .ensures) (given-refused _ _ _ _ _ _ _ _ _ _ _ (c .before .before .before .before .before .before .before .before .before .before .before .before .before .before .before .before .before .before .before .before .before .before .before .before .before .before .before .before .before .before .before .before .before .before .before .before .pre .0) (c .before .before .before .before .before .before .before .before .before .before .before .before .before .before .before .before .before .before .before .before .before .before .before .before .before .before .before .before .before .before .before .before .before .before .before .before .pre .1) _ _ _ _ _ _ _ (c .before .before .before .before .before .before .before .before .before .before .before .before .before .before .before .before .before .before .before .before .before .before .before .circuit-on .ensures) (c .before .before .before .before .before .before .before .before .before .before .before .before .before .before .before .before .before .renumber .ensures) _ (c .before .before .before .before .before .answer2 .given .1))
+returns-2 c =
+    let printRefusedAt = c .before .before in
+    let answer2At = printRefusedAt .before .before .before in
+    let renumberAt = answer2At .before .before .before .before .before .before .before .before .before .before .before .before in
+    let circuitOnAt = renumberAt .before .before .before .before .before .before in
+    let entry = circuitOnAt .before .before .before .before .before .before .before .before .before .before .before .before .before in
+    put-same (printRefusedAt .print-refused .ensures) (given-refused _ _ _ _ _ _ _ _ _ _ _ (entry .pre .0) (entry .pre .1) _ _ _ _ _ _ _
+    (circuitOnAt .circuit-on .ensures) (renumberAt .renumber .ensures) _ (answer2At .answer2 .given .1))
 
 pub report-answer-spec : {M : Type 1} → statement M
 report-answer-spec =

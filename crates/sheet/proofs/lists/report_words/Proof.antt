@@ -21,19 +21,27 @@ shared-slice-read-gates-end : tie.Need-shared-slice-read-gates-end
 shared-slice-read-gates-end c = search needs
 
 mul-gates-end : tie.Need-mul-gates-end
-mul-gates-end c = omega (arith, bounds (c .before .before .before .before .before .pre .0))
+mul-gates-end c =
+    let entry = c .before .before .before .before .before in
+    omega (arith, bounds (entry .pre .0))
 
 add-gates-end : tie.Need-add-gates-end
-add-gates-end c = omega (arith, bounds (c .before .before .before .before .before .pre .0))
+add-gates-end c =
+    let entry = c .before .before .before .before .before in
+    omega (arith, bounds (entry .pre .0))
 
 shared-slice-read-latches : tie.Need-shared-slice-read-latches
 shared-slice-read-latches c = search needs
 
 mul-latches-end : tie.Need-mul-latches-end
-mul-latches-end c = omega (arith, bounds (c .before .before .before .before .before .before .pre .0))
+mul-latches-end c =
+    let entry = c .before .before .before .before .before .before in
+    omega (arith, bounds (entry .pre .0))
 
 add-latches-end : tie.Need-add-latches-end
-add-latches-end c = omega (arith, bounds (c .before .before .before .before .before .before .pre .0))
+add-latches-end c =
+    let entry = c .before .before .before .before .before .before in
+    omega (arith, bounds (entry .pre .0))
 
 row-requires : tie.Need-row-requires
 row-requires c κs = search needs
@@ -42,7 +50,9 @@ row-requires-2 : tie.Need-row-requires-2
 row-requires-2 c κs = search needs
 
 mul-split : tie.Need-mul-split
-mul-split c = omega (arith, bounds (c .before .before .before .before .before .before .before .before .pre .0))
+mul-split c =
+    let entry = c .before .before .before .before .before .before .before .before in
+    omega (arith, bounds (entry .pre .0))
 
 sub-split : tie.Need-sub-split
 sub-split c = search needs
@@ -51,40 +61,91 @@ part-split-start : tie.Need-part-split-start
 part-split-start c = search needs
 
 part-split-end : tie.Need-part-split-end
-part-split-end c = let a = c .before .before .before .before .before .before .before .before .args in parts-end (now (a .header)) (now (a .words)) (c .before .before .before .before .before .before .before .before .pre .0) (c .before .before .before .before .before .before .before .before .pre .1)
+part-split-end c =
+    let entry = c .before .before .before .before .before .before .before .before in
+    let a = entry .args in
+    parts-end (now (a .header)) (now (a .words)) (entry .pre .0) (entry .pre .1)
 
 array-borrow-prefix-states : tie.Need-array-borrow-prefix-states
-array-borrow-prefix-states c = omega (arith, bounds (c .before .before .before .before .before .before .before .before .before .pre .0))
+array-borrow-prefix-states c =
+    let entry = c .before .before .before .before .before .before .before .before .before in
+    omega (arith, bounds (entry .pre .0))
 
 slice-aggregate-split : tie.Need-slice-aggregate-split
-slice-aggregate-split c = let a = c .before .before .before .before .before .before .before .before .before .before .args in sym (length-take-le (latchCount (now (a .header))) (c .before .before .before .row .result) (omega (arith, c .before .before .before .row .ensures, bounds (c .before .before .before .before .before .before .before .before .before .before .pre .0))))
+slice-aggregate-split c =
+    let rowAt = c .before .before .before in
+    let entry = rowAt .before .before .before .before .before .before .before in
+    let a = entry .args in
+    sym (length-take-le (latchCount (now (a .header))) (rowAt .row .result) (omega (arith, rowAt .row .ensures, bounds (entry .pre .0))))
 
 array-borrow-prefix-nexts : tie.Need-array-borrow-prefix-nexts
-array-borrow-prefix-nexts c = omega (arith, bounds (c .before .before .before .before .before .before .before .before .before .before .pre .0))
+array-borrow-prefix-nexts c =
+    let entry = c .before .before .before .before .before .before .before .before .before .before in
+    omega (arith, bounds (entry .pre .0))
 
 slice-aggregate-split-2 : tie.Need-slice-aggregate-split-2
-slice-aggregate-split-2 c = let a = c .before .before .before .before .before .before .before .before .before .before .before .args in sym (length-take-le (latchCount (now (a .header))) (c .before .before .before .row2 .result) (omega (arith, c .before .before .before .row2 .ensures, bounds (c .before .before .before .before .before .before .before .before .before .before .before .pre .0))))
+slice-aggregate-split-2 c =
+    let row2At = c .before .before .before in
+    let entry = row2At .before .before .before .before .before .before .before .before in
+    let a = entry .args in
+    sym (length-take-le (latchCount (now (a .header))) (row2At .row2 .result) (omega (arith, row2At .row2 .ensures, bounds (entry .pre .0))))
 
 split-requires : tie.Need-split-requires
-split-requires c κs = let a = c .before .before .before .before .before .before .before .before .before .before .before .args in (part-long (now (a .header)) (now (a .words)) (c .before .before .before .before .before .before .before .before .before .before .before .pre .0) (c .before .before .before .before .before .before .before .before .before .before .before .pre .1) ∙ ap (λ (k : ℕ). 2 * k) (sym (length-take-le (latchCount (now (a .header))) (c .before .before .before .before .row .result) (omega (arith, c .before .before .before .before .row .ensures, bounds (c .before .before .before .before .before .before .before .before .before .before .before .pre .0))))), length-take-le (latchCount (now (a .header))) (c .before .before .before .row2 .result) (omega (arith, c .before .before .before .row2 .ensures, bounds (c .before .before .before .before .before .before .before .before .before .before .before .pre .0))) ∙ sym (length-take-le (latchCount (now (a .header))) (c .before .before .before .before .row .result) (omega (arith, c .before .before .before .before .row .ensures, bounds (c .before .before .before .before .before .before .before .before .before .before .before .pre .0)))))
+split-requires c κs =
+    let row2At = c .before .before .before in
+    let rowAt = row2At .before in
+    let entry = rowAt .before .before .before .before .before .before .before in
+    let a = entry .args in (
+      part-long (now (a .header)) (now (a .words)) (entry .pre .0) (entry .pre .1) ∙ ap (λ (k : ℕ). 2 * k)
+          (sym (length-take-le (latchCount (now (a .header))) (rowAt .row .result) (omega (arith, rowAt .row .ensures, bounds (entry .pre .0))))),
+      length-take-le (latchCount (now (a .header))) (row2At .row2 .result) (omega (arith, row2At .row2 .ensures, bounds (entry .pre .0))) ∙ sym
+          (length-take-le (latchCount (now (a .header))) (rowAt .row .result) (omega (arith, rowAt .row .ensures, bounds (entry .pre .0)))),
+    )
 
 slice-aggregate-report-circuit : tie.Need-slice-aggregate-report-circuit
-slice-aggregate-report-circuit c = let a = c .before .before .before .before .before .before .before .before .before .before .before .before .before .before .before .args in sym (inputs-long (now (a .header)) (now (a .words)) (c .before .before .before .before .before .before .before .before .before .before .before .before .before .before .before .pre .0) (c .before .before .before .before .before .before .before .before .before .before .before .before .before .before .before .pre .1))
+slice-aggregate-report-circuit c =
+    let entry = c .before .before .before .before .before .before .before .before .before .before .before .before .before .before .before in
+    let a = entry .args in
+    sym (inputs-long (now (a .header)) (now (a .words)) (entry .pre .0) (entry .pre .1))
 
 array-share-prefix-states : tie.Need-array-share-prefix-states
-array-share-prefix-states c = let a = c .before .before .before .before .before .before .before .before .before .before .before .before .before .before .before .args in states-front (now (a .header)) (now (a .words)) (c .before .before .before .before .before .before .before .before .before .before .before .before .before .before .before .pre .0) (c .before .before .before .before .before .before .before .before .before .before .before .before .before .before .before .pre .1) (c .before .before .before .split .last .1 .0) _ (c .before .before .before .split .ensures .0) .room
+array-share-prefix-states c =
+    let splitAt = c .before .before .before in
+    let entry = splitAt .before .before .before .before .before .before .before .before .before .before .before .before in
+    let splitStates = splitAt .split .last .1 .0 in
+    let a = entry .args in
+    states-front (now (a .header)) (now (a .words)) (entry .pre .0) (entry .pre .1) (splitStates) _ (splitAt .split .ensures .0) .room
 
 slice-aggregate-report-circuit-2 : tie.Need-slice-aggregate-report-circuit-2
-slice-aggregate-report-circuit-2 c = let a = c .before .before .before .before .before .before .before .before .before .before .before .before .before .before .before .before .args in states-front (now (a .header)) (now (a .words)) (c .before .before .before .before .before .before .before .before .before .before .before .before .before .before .before .before .pre .0) (c .before .before .before .before .before .before .before .before .before .before .before .before .before .before .before .before .pre .1) (c .before .before .before .before .split .last .1 .0) _ (c .before .before .before .before .split .ensures .0) .count
+slice-aggregate-report-circuit-2 c =
+    let splitAt = c .before .before .before .before in
+    let entry = splitAt .before .before .before .before .before .before .before .before .before .before .before .before in
+    let splitStates = splitAt .split .last .1 .0 in
+    let a = entry .args in
+    states-front (now (a .header)) (now (a .words)) (entry .pre .0) (entry .pre .1) (splitStates) _ (splitAt .split .ensures .0) .count
 
 array-share-prefix-nexts : tie.Need-array-share-prefix-nexts
-array-share-prefix-nexts c = let a = c .before .before .before .before .before .before .before .before .before .before .before .before .before .before .before .before .args in nexts-front (now (a .header)) (now (a .words)) (c .before .before .before .before .before .before .before .before .before .before .before .before .before .before .before .before .pre .0) (c .before .before .before .before .before .before .before .before .before .before .before .before .before .before .before .before .pre .1) (c .before .before .before .before .split .last .1 .1 .0) _ (c .before .before .before .before .split .ensures .1) .room
+array-share-prefix-nexts c =
+    let splitAt = c .before .before .before .before in
+    let entry = splitAt .before .before .before .before .before .before .before .before .before .before .before .before in
+    let splitNexts = splitAt .split .last .1 .1 .0 in
+    let a = entry .args in
+    nexts-front (now (a .header)) (now (a .words)) (entry .pre .0) (entry .pre .1) (splitNexts) _ (splitAt .split .ensures .1) .room
 
 slice-aggregate-report-circuit-3 : tie.Need-slice-aggregate-report-circuit-3
-slice-aggregate-report-circuit-3 c = let a = c .before .before .before .before .before .before .before .before .before .before .before .before .before .before .before .before .before .args in nexts-front (now (a .header)) (now (a .words)) (c .before .before .before .before .before .before .before .before .before .before .before .before .before .before .before .before .before .pre .0) (c .before .before .before .before .before .before .before .before .before .before .before .before .before .before .before .before .before .pre .1) (c .before .before .before .before .before .split .last .1 .1 .0) _ (c .before .before .before .before .before .split .ensures .1) .count
+slice-aggregate-report-circuit-3 c =
+    let splitAt = c .before .before .before .before .before in
+    let entry = splitAt .before .before .before .before .before .before .before .before .before .before .before .before in
+    let splitNexts = splitAt .split .last .1 .1 .0 in
+    let a = entry .args in
+    nexts-front (now (a .header)) (now (a .words)) (entry .pre .0) (entry .pre .1) (splitNexts) _ (splitAt .split .ensures .1) .count
 
 mul-report-circuit : tie.Need-mul-report-circuit
-mul-report-circuit c = omega (arith, bounds (c .before .before .before .before .before .before .before .before .before .before .before .before .before .before .before .before .before .pre .0))
+mul-report-circuit c =
+    let entry =
+    c .before .before .before .before .before .before .before .before .before .before .before .before .before .before
+    .before .before .before in
+    omega (arith, bounds (entry .pre .0))
 
 sub-report-circuit : tie.Need-sub-report-circuit
 sub-report-circuit c = search needs
@@ -93,28 +154,69 @@ part-report-circuit-start : tie.Need-part-report-circuit-start
 part-report-circuit-start c = search needs
 
 part-report-circuit-end : tie.Need-part-report-circuit-end
-part-report-circuit-end c = let a = c .before .before .before .before .before .before .before .before .before .before .before .before .before .before .before .before .before .args in gates-end (now (a .header)) (now (a .words)) (c .before .before .before .before .before .before .before .before .before .before .before .before .before .before .before .before .before .pre .0) (c .before .before .before .before .before .before .before .before .before .before .before .before .before .before .before .before .before .pre .1)
+part-report-circuit-end c =
+    let entry =
+    c .before .before .before .before .before .before .before .before .before .before .before .before .before .before
+    .before .before .before in
+    let a = entry .args in
+    gates-end (now (a .header)) (now (a .words)) (entry .pre .0) (entry .pre .1)
 
 mul-report-circuit-2 : tie.Need-mul-report-circuit-2
-mul-report-circuit-2 c = omega (arith, bounds (c .before .before .before .before .before .before .before .before .before .before .before .before .before .before .before .before .before .before .pre .0))
+mul-report-circuit-2 c =
+    let entry =
+    c .before .before .before .before .before .before .before .before .before .before .before .before .before .before
+    .before .before .before .before in
+    omega (arith, bounds (entry .pre .0))
 
 sub-report-circuit-2 : tie.Need-sub-report-circuit-2
-sub-report-circuit-2 c = let a = c .before .before .before .before .before .before .before .before .before .before .before .before .before .before .before .before .before .before .args in parts-end (now (a .header)) (now (a .words)) (c .before .before .before .before .before .before .before .before .before .before .before .before .before .before .before .before .before .before .pre .0) (c .before .before .before .before .before .before .before .before .before .before .before .before .before .before .before .before .before .before .pre .1)
+sub-report-circuit-2 c =
+    let entry =
+    c .before .before .before .before .before .before .before .before .before .before .before .before .before .before
+    .before .before .before .before in
+    let a = entry .args in
+    parts-end (now (a .header)) (now (a .words)) (entry .pre .0) (entry .pre .1)
 
 part-report-circuit-start-2 : tie.Need-part-report-circuit-start-2
-part-report-circuit-start-2 c = let a = c .before .before .before .before .before .before .before .before .before .before .before .before .before .before .before .before .before .before .args in parts-end (now (a .header)) (now (a .words)) (c .before .before .before .before .before .before .before .before .before .before .before .before .before .before .before .before .before .before .pre .0) (c .before .before .before .before .before .before .before .before .before .before .before .before .before .before .before .before .before .before .pre .1)
+part-report-circuit-start-2 c =
+    let entry =
+    c .before .before .before .before .before .before .before .before .before .before .before .before .before .before
+    .before .before .before .before in
+    let a = entry .args in
+    parts-end (now (a .header)) (now (a .words)) (entry .pre .0) (entry .pre .1)
 
 part-report-circuit-end-2 : tie.Need-part-report-circuit-end-2
 part-report-circuit-end-2 c = search needs
 
 report-circuit-requires : tie.Need-report-circuit-requires
-report-circuit-requires c κs = let a = c .before .before .before .before .before .before .before .before .before .before .before .before .before .before .before .before .before .before .before .before .args in lists-shaped (now (a .header)) (now (a .words)) (c .before .before .before .before .before .before .before .before .before .before .before .before .before .before .before .before .before .before .before .before .pre .0) (c .before .before .before .before .before .before .before .before .before .before .before .before .before .before .before .before .before .before .before .before .pre .1) refl (states-front (now (a .header)) (now (a .words)) (c .before .before .before .before .before .before .before .before .before .before .before .before .before .before .before .before .before .before .before .before .pre .0) (c .before .before .before .before .before .before .before .before .before .before .before .before .before .before .before .before .before .before .before .before .pre .1) (c .before .before .before .before .before .before .before .before .split .last .1 .0) _ (c .before .before .before .before .before .before .before .before .split .ensures .0) .same) (nexts-front (now (a .header)) (now (a .words)) (c .before .before .before .before .before .before .before .before .before .before .before .before .before .before .before .before .before .before .before .before .pre .0) (c .before .before .before .before .before .before .before .before .before .before .before .before .before .before .before .before .before .before .before .before .pre .1) (c .before .before .before .before .before .before .before .before .split .last .1 .1 .0) _ (c .before .before .before .before .before .before .before .before .split .ensures .1) .same) (part-of (inputCount (now (a .header))) (3 * gateCount (now (a .header))) (now (a .words))) (part-rest (inputCount (now (a .header)) + 3 * gateCount (now (a .header)) + 2 * latchCount (now (a .header))) (now (a .words)))
+report-circuit-requires c κs =
+    let splitAt = c .before .before .before .before .before .before .before .before in
+    let entry = splitAt .before .before .before .before .before .before .before .before .before .before .before .before in
+    let splitStates = splitAt .split .last .1 .0 in
+    let splitNexts = splitAt .split .last .1 .1 .0 in
+    let a = entry .args in
+    lists-shaped (now (a .header)) (now (a .words)) (entry .pre .0) (entry .pre .1) refl
+    (states-front (now (a .header)) (now (a .words)) (entry .pre .0) (entry .pre .1) (splitStates) _ (splitAt .split .ensures .0) .same)
+    (nexts-front (now (a .header)) (now (a .words)) (entry .pre .0) (entry .pre .1) (splitNexts) _ (splitAt .split .ensures .1) .same)
+    (part-of (inputCount (now (a .header))) (3 * gateCount (now (a .header))) (now (a .words)))
+    (part-rest (inputCount (now (a .header)) + 3 * gateCount (now (a .header)) + 2 * latchCount (now (a .header))) (now (a .words)))
 
 same-length : tie.Need-same-length
 same-length c = search needs
 
 returns : tie.Need-returns
-returns c = let a = c .before .before .before .before .before .before .before .before .before .before .before .before .before .before .before .before .before .before .before .before .before .before .before .args in put-same (c .before .before .report-circuit .ensures) (ap (λ (C : Circuit). outText C (renumber C)) (lists-circuit (now (a .header)) (now (a .words)) refl (states-front (now (a .header)) (now (a .words)) (c .before .before .before .before .before .before .before .before .before .before .before .before .before .before .before .before .before .before .before .before .before .before .before .pre .0) (c .before .before .before .before .before .before .before .before .before .before .before .before .before .before .before .before .before .before .before .before .before .before .before .pre .1) (c .before .before .before .before .before .before .before .before .before .before .before .split .last .1 .0) _ (c .before .before .before .before .before .before .before .before .before .before .before .split .ensures .0) .same) (nexts-front (now (a .header)) (now (a .words)) (c .before .before .before .before .before .before .before .before .before .before .before .before .before .before .before .before .before .before .before .before .before .before .before .pre .0) (c .before .before .before .before .before .before .before .before .before .before .before .before .before .before .before .before .before .before .before .before .before .before .before .pre .1) (c .before .before .before .before .before .before .before .before .before .before .before .split .last .1 .1 .0) _ (c .before .before .before .before .before .before .before .before .before .before .before .split .ensures .1) .same) (part-of (inputCount (now (a .header))) (3 * gateCount (now (a .header))) (now (a .words))) (part-rest (inputCount (now (a .header)) + 3 * gateCount (now (a .header)) + 2 * latchCount (now (a .header))) (now (a .words)))))
+returns c =
+    let reportCircuitAt = c .before .before in
+    let splitAt = reportCircuitAt .before .before .before .before .before .before .before .before .before in
+    let entry = splitAt .before .before .before .before .before .before .before .before .before .before .before .before in
+    let splitStates = splitAt .split .last .1 .0 in
+    let splitNexts = splitAt .split .last .1 .1 .0 in
+    let a = entry .args in
+    put-same (reportCircuitAt .report-circuit .ensures) (ap (λ (C : Circuit). outText C (renumber C))
+    (lists-circuit (now (a .header)) (now (a .words)) refl
+    (states-front (now (a .header)) (now (a .words)) (entry .pre .0) (entry .pre .1) (splitStates) _ (splitAt .split .ensures .0) .same)
+    (nexts-front (now (a .header)) (now (a .words)) (entry .pre .0) (entry .pre .1) (splitNexts) _ (splitAt .split .ensures .1) .same)
+    (part-of (inputCount (now (a .header))) (3 * gateCount (now (a .header))) (now (a .words)))
+    (part-rest (inputCount (now (a .header)) + 3 * gateCount (now (a .header)) + 2 * latchCount (now (a .header))) (now (a .words)))))
 
 pub report-words-spec : {M : Type 1} → statement M
 report-words-spec =

@@ -15,58 +15,157 @@ abbrev μ-loop : tie.MeasureT-loop
 μ-loop latches states₀ nexts₀ j₀ states nexts j = length states₀ - j
 
 loop-holds : tie.Need-loop-holds Inv-loop μ-loop
-loop-holds c = (copied-none _ _ (omega (arith, states-length (now (c .args .latches)))), copied-none _ _ (omega (arith, nexts-length (now (c .args .latches)))))
+loop-holds c =
+    (copied-none _ _ (omega (arith, states-length (now (c .args .latches)))), copied-none _ _ (omega (arith, nexts-length (now (c .args .latches)))))
 
 mul-states : tie.Need-mul-states Inv-loop μ-loop
-mul-states c = omega (arith, states-length (now (c .before .before .args .latches)), c .before .loop .inv .0 .same, c .before .loop .inv .1 .same, nexts-length (now (c .before .before .args .latches)))
+mul-states c =
+    omega (
+      arith,
+      states-length (now (c .before .before .args .latches)),
+      c .before .loop .inv .0 .same,
+      c .before .loop .inv .1 .same,
+      nexts-length
+          (now (c .before .before .args .latches)),
+    )
 
 mul-states-2 : tie.Need-mul-states-2 Inv-loop μ-loop
-mul-states-2 c = omega (arith, states-length (now (c .before .before .args .latches)), c .before .loop .inv .0 .same, c .before .loop .inv .1 .same, nexts-length (now (c .before .before .args .latches)))
+mul-states-2 c =
+    omega (
+      arith,
+      states-length (now (c .before .before .args .latches)),
+      c .before .loop .inv .0 .same,
+      c .before .loop .inv .1 .same,
+      nexts-length
+          (now (c .before .before .args .latches)),
+    )
 
 shared-slice-read-states : tie.Need-shared-slice-read-states Inv-loop μ-loop
-shared-slice-read-states c = omega (arith, states-length (now (c .before .before .before .args .latches)), c .before .before .loop .inv .0 .same, c .before .before .loop .inv .1 .same, nexts-length (now (c .before .before .before .args .latches)))
+shared-slice-read-states c =
+    let loopAt = c .before .before in
+    let entry = loopAt .before in
+    let a = entry .args in
+    omega (arith, states-length (now (a .latches)), loopAt .loop .inv .0 .same, loopAt .loop .inv .1 .same, nexts-length (now (a .latches)))
 
 mul-states-3 : tie.Need-mul-states-3 Inv-loop μ-loop
-mul-states-3 c = omega (arith, states-length (now (c .before .before .before .args .latches)), c .before .before .loop .inv .0 .same, c .before .before .loop .inv .1 .same, nexts-length (now (c .before .before .before .args .latches)))
+mul-states-3 c =
+    let loopAt = c .before .before in
+    let entry = loopAt .before in
+    let a = entry .args in
+    omega (arith, states-length (now (a .latches)), loopAt .loop .inv .0 .same, loopAt .loop .inv .1 .same, nexts-length (now (a .latches)))
 
 slice-write-states : tie.Need-slice-write-states Inv-loop μ-loop
-slice-write-states c = omega (arith, states-length (now (c .before .before .before .args .latches)), c .before .before .loop .inv .0 .same, c .before .before .loop .inv .1 .same, nexts-length (now (c .before .before .before .args .latches)))
+slice-write-states c =
+    let loopAt = c .before .before in
+    let entry = loopAt .before in
+    let a = entry .args in
+    omega (arith, states-length (now (a .latches)), loopAt .loop .inv .0 .same, loopAt .loop .inv .1 .same, nexts-length (now (a .latches)))
 
 mul-nexts : tie.Need-mul-nexts Inv-loop μ-loop
-mul-nexts c = omega (arith, states-length (now (c .before .before .before .args .latches)), c .before .before .loop .inv .0 .same, c .before .before .loop .inv .1 .same, nexts-length (now (c .before .before .before .args .latches)))
+mul-nexts c =
+    let loopAt = c .before .before in
+    let entry = loopAt .before in
+    let a = entry .args in
+    omega (arith, states-length (now (a .latches)), loopAt .loop .inv .0 .same, loopAt .loop .inv .1 .same, nexts-length (now (a .latches)))
 
 add-nexts : tie.Need-add-nexts Inv-loop μ-loop
-add-nexts c = omega (arith, states-length (now (c .before .before .before .args .latches)), c .before .before .loop .inv .0 .same, c .before .before .loop .inv .1 .same, nexts-length (now (c .before .before .before .args .latches)))
+add-nexts c =
+    let loopAt = c .before .before in
+    let entry = loopAt .before in
+    let a = entry .args in
+    omega (arith, states-length (now (a .latches)), loopAt .loop .inv .0 .same, loopAt .loop .inv .1 .same, nexts-length (now (a .latches)))
 
 mul-nexts-2 : tie.Need-mul-nexts-2 Inv-loop μ-loop
-mul-nexts-2 c = omega (arith, states-length (now (c .before .before .before .args .latches)), c .before .before .loop .inv .0 .same, c .before .before .loop .inv .1 .same, nexts-length (now (c .before .before .before .args .latches)))
+mul-nexts-2 c =
+    let loopAt = c .before .before in
+    let entry = loopAt .before in
+    let a = entry .args in
+    omega (arith, states-length (now (a .latches)), loopAt .loop .inv .0 .same, loopAt .loop .inv .1 .same, nexts-length (now (a .latches)))
 
 shared-slice-read-nexts : tie.Need-shared-slice-read-nexts Inv-loop μ-loop
-shared-slice-read-nexts c = omega (arith, states-length (now (c .before .before .before .before .args .latches)), c .before .before .before .loop .inv .0 .same, c .before .before .before .loop .inv .1 .same, nexts-length (now (c .before .before .before .before .args .latches)))
+shared-slice-read-nexts c =
+    let loopAt = c .before .before .before in
+    let entry = loopAt .before in
+    let a = entry .args in
+    omega (arith, states-length (now (a .latches)), loopAt .loop .inv .0 .same, loopAt .loop .inv .1 .same, nexts-length (now (a .latches)))
 
 mul-nexts-3 : tie.Need-mul-nexts-3 Inv-loop μ-loop
-mul-nexts-3 c = omega (arith, states-length (now (c .before .before .before .before .args .latches)), c .before .before .before .loop .inv .0 .same, c .before .before .before .loop .inv .1 .same, nexts-length (now (c .before .before .before .before .args .latches)))
+mul-nexts-3 c =
+    let loopAt = c .before .before .before in
+    let entry = loopAt .before in
+    let a = entry .args in
+    omega (arith, states-length (now (a .latches)), loopAt .loop .inv .0 .same, loopAt .loop .inv .1 .same, nexts-length (now (a .latches)))
 
 slice-write-nexts : tie.Need-slice-write-nexts Inv-loop μ-loop
-slice-write-nexts c = omega (arith, states-length (now (c .before .before .before .before .args .latches)), c .before .before .before .loop .inv .0 .same, c .before .before .before .loop .inv .1 .same, nexts-length (now (c .before .before .before .before .args .latches)))
+slice-write-nexts c =
+    let loopAt = c .before .before .before in
+    let entry = loopAt .before in
+    let a = entry .args in
+    omega (arith, states-length (now (a .latches)), loopAt .loop .inv .0 .same, loopAt .loop .inv .1 .same, nexts-length (now (a .latches)))
 
 add-j : tie.Need-add-j Inv-loop μ-loop
-add-j c = omega (arith, states-length (now (c .before .before .before .before .args .latches)), c .before .before .before .loop .inv .0 .same, c .before .before .before .loop .inv .1 .same, nexts-length (now (c .before .before .before .before .args .latches)))
+add-j c =
+    let loopAt = c .before .before .before in
+    let entry = loopAt .before in
+    let a = entry .args in
+    omega (arith, states-length (now (a .latches)), loopAt .loop .inv .0 .same, loopAt .loop .inv .1 .same, nexts-length (now (a .latches)))
 
 loop-less : tie.Need-loop-less Inv-loop μ-loop
-loop-less c = omega (arith, states-length (now (c .before .before .before .before .args .latches)), c .before .before .before .loop .inv .0 .same, c .before .before .before .loop .inv .1 .same, nexts-length (now (c .before .before .before .before .args .latches)))
+loop-less c =
+    let loopAt = c .before .before .before in
+    let entry = loopAt .before in
+    let a = entry .args in
+    omega (arith, states-length (now (a .latches)), loopAt .loop .inv .0 .same, loopAt .loop .inv .1 .same, nexts-length (now (a .latches)))
 
 loop-again : tie.Need-loop-again Inv-loop μ-loop
-loop-again c = (copied-more _ _ _ _ (c .before .before .before .loop .inv .0) (omega (arith, states-length (now (c .before .before .before .before .args .latches)), c .before .before .before .loop .inv .0 .same)) (states-at (now (c .before .before .before .before .args .latches)) (c .before .before .before .loop .j) (omega (arith, states-length (now (c .before .before .before .before .args .latches)), c .before .before .before .loop .inv .0 .same))), copied-more _ _ _ _ (c .before .before .before .loop .inv .1) (omega (arith, nexts-length (now (c .before .before .before .before .args .latches)), states-length (now (c .before .before .before .before .args .latches)), c .before .before .before .loop .inv .0 .same)) (nexts-at (now (c .before .before .before .before .args .latches)) (c .before .before .before .loop .j) (omega (arith, states-length (now (c .before .before .before .before .args .latches)), c .before .before .before .loop .inv .0 .same))))
+loop-again c =
+    let loopAt = c .before .before .before in
+    let entry = loopAt .before in
+    let a = entry .args in (
+      copied-more _ _ _ _ (loopAt .loop .inv .0) (omega (arith, states-length (now (a .latches)), loopAt .loop .inv .0 .same))
+          (states-at (now (a .latches)) (loopAt .loop .j) (omega (arith, states-length (now (a .latches)), loopAt .loop .inv .0 .same))),
+      copied-more _ _ _
+          _ (loopAt .loop .inv .1) (omega (arith, nexts-length (now (a .latches)), states-length (now (a .latches)), loopAt .loop .inv .0 .same))
+          (nexts-at (now (a .latches)) (loopAt .loop .j) (omega (arith, states-length (now (a .latches)), loopAt .loop .inv .0 .same))),
+    )
 
 same-length : tie.Need-same-length Inv-loop μ-loop
-same-length c = omega (arith, states-length (now (c .before .before .args .latches)), c .before .loop .inv .0 .same, c .before .loop .inv .1 .same, nexts-length (now (c .before .before .args .latches)))
+same-length c =
+    omega (
+      arith,
+      states-length (now (c .before .before .args .latches)),
+      c .before .loop .inv .0 .same,
+      c .before .loop .inv .1 .same,
+      nexts-length
+          (now (c .before .before .args .latches)),
+    )
 
 same-length-2 : tie.Need-same-length-2 Inv-loop μ-loop
-same-length-2 c = omega (arith, states-length (now (c .before .before .args .latches)), c .before .loop .inv .0 .same, c .before .loop .inv .1 .same, nexts-length (now (c .before .before .args .latches)))
+same-length-2 c =
+    omega (
+      arith,
+      states-length (now (c .before .before .args .latches)),
+      c .before .loop .inv .0 .same,
+      c .before .loop .inv .1 .same,
+      nexts-length
+          (now (c .before .before .args .latches)),
+    )
 
 returns : tie.Need-returns Inv-loop μ-loop
-returns c = (copied-all _ _ _ (c .before .loop .inv .0) (omega (arith, states-length (now (c .before .before .args .latches)), c .before .loop .inv .0 .same)), copied-all _ _ _ (c .before .loop .inv .1) (omega (arith, states-length (now (c .before .before .args .latches)), nexts-length (now (c .before .before .args .latches)), c .before .loop .inv .0 .same)))
+returns c = (
+  copied-all _ _ _ (c .before .loop .inv .0) (omega (
+    arith,
+    states-length (now (c .before .before .args .latches)),
+    c .before .loop .inv .0 .same,
+  )),
+  copied-all _ _ _ (c .before .loop .inv .1)
+      (omega (
+        arith,
+        states-length (now (c .before .before .args .latches)),
+        nexts-length (now (c .before .before .args .latches)),
+        c .before .loop .inv .0 .same,
+      )),
+)
 
 pub split-spec : {M : Type 1} → statement M
 split-spec =

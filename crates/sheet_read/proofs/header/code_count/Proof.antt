@@ -31,7 +31,9 @@ root-count-requires : tie.Need-root-count-requires
 root-count-requires c κs = taken-small (c .before .before .before .before .pre)
 
 add-result-3 : tie.Need-add-result-3
-add-result-3 c = omega (arith, c .root-count .ensures, bounds (c .before .before .before .before .before .pre))
+add-result-3 c =
+    let entry = c .before .before .before .before .before in
+    omega (arith, c .root-count .ensures, bounds (entry .pre))
 
 returns : tie.Need-returns
 unfolding codeCount

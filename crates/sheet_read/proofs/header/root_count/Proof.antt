@@ -12,28 +12,69 @@ shared-slice-read-result-2 : tie.Need-shared-slice-read-result-2
 shared-slice-read-result-2 c = search needs
 
 add-result : tie.Need-add-result
-add-result c = omega (arith, small-at (c .before .before .pre) 4 (omega arith), small-at (c .before .before .pre) 5 (omega arith), small-at (c .before .before .pre) 6 (omega arith), small-at (c .before .before .pre) 7 (omega arith), small-at (c .before .before .pre) 8 (omega arith))
+add-result c =
+    omega (
+      arith,
+      small-at (c .before .before .pre) 4 (omega arith),
+      small-at (c .before .before .pre) 5 (omega arith),
+      small-at
+          (c .before .before .pre) 6 (omega arith),
+      small-at (c .before .before .pre) 7 (omega arith),
+      small-at (c .before .before .pre) 8 (omega arith),
+    )
 
 shared-slice-read-result-3 : tie.Need-shared-slice-read-result-3
 shared-slice-read-result-3 c = search needs
 
 add-result-2 : tie.Need-add-result-2
-add-result-2 c = omega (arith, small-at (c .before .before .before .pre) 4 (omega arith), small-at (c .before .before .before .pre) 5 (omega arith), small-at (c .before .before .before .pre) 6 (omega arith), small-at (c .before .before .before .pre) 7 (omega arith), small-at (c .before .before .before .pre) 8 (omega arith))
+add-result-2 c =
+    let entry = c .before .before .before in
+    omega (
+      arith,
+      small-at (entry .pre) 4 (omega arith),
+      small-at (entry .pre) 5 (omega arith),
+      small-at (entry .pre) 6 (omega arith),
+      small-at
+          (entry .pre) 7 (omega arith),
+      small-at (entry .pre) 8 (omega arith),
+    )
 
 shared-slice-read-result-4 : tie.Need-shared-slice-read-result-4
 shared-slice-read-result-4 c = search needs
 
 add-result-3 : tie.Need-add-result-3
-add-result-3 c = omega (arith, small-at (c .before .before .before .before .pre) 4 (omega arith), small-at (c .before .before .before .before .pre) 5 (omega arith), small-at (c .before .before .before .before .pre) 6 (omega arith), small-at (c .before .before .before .before .pre) 7 (omega arith), small-at (c .before .before .before .before .pre) 8 (omega arith))
+add-result-3 c =
+    let entry = c .before .before .before .before in
+    omega (
+      arith,
+      small-at (entry .pre) 4 (omega arith),
+      small-at (entry .pre) 5 (omega arith),
+      small-at (entry .pre) 6 (omega arith),
+      small-at
+          (entry .pre) 7 (omega arith),
+      small-at (entry .pre) 8 (omega arith),
+    )
 
 shared-slice-read-result-5 : tie.Need-shared-slice-read-result-5
 shared-slice-read-result-5 c = search needs
 
 add-result-4 : tie.Need-add-result-4
-add-result-4 c = omega (arith, small-at (c .before .before .before .before .before .pre) 4 (omega arith), small-at (c .before .before .before .before .before .pre) 5 (omega arith), small-at (c .before .before .before .before .before .pre) 6 (omega arith), small-at (c .before .before .before .before .before .pre) 7 (omega arith), small-at (c .before .before .before .before .before .pre) 8 (omega arith))
+add-result-4 c =
+    let entry = c .before .before .before .before .before in
+    omega (
+      arith,
+      small-at (entry .pre) 4 (omega arith),
+      small-at (entry .pre) 5 (omega arith),
+      small-at (entry .pre) 6 (omega arith),
+      small-at
+          (entry .pre) 7 (omega arith),
+      small-at (entry .pre) 8 (omega arith),
+    )
 
 returns : tie.Need-returns
-returns c = root-sum _ (c .before .before .before .before .before .pre .ten)
+returns c =
+    let entry = c .before .before .before .before .before in
+    root-sum _ (entry .pre .ten)
 
 pub root-count-spec : {M : Type 1} → statement M
 root-count-spec =

@@ -20,16 +20,32 @@ enum-told : tie.Need-enum-told
 enum-told c = c .match .keys1
 
 root-count-requires : tie.Need-root-count-requires
-root-count-requires c κs = record { ten = c .before .before .before .before .before .pre; nine = none-found sizeLimit (take 9 (now (c .before .before .before .before .before .args .header))) (sym (c .enum-told .given .1) ∙ c .before .before .first-over .ensures) }
+root-count-requires c κs =
+    let firstOverAt = c .before .before in
+    let entry = firstOverAt .before .before .before in
+    record {
+      ten = entry .pre;
+      nine = none-found sizeLimit (take 9 (now (entry .args .header)))
+          (sym (c .enum-told .given .1) ∙ firstOverAt .first-over .ensures);
+    }
 
 enum-known-offender : tie.Need-enum-known-offender
 enum-known-offender c = c .match .keys2
 
 returns : tie.Need-returns
-returns c = ap (ltb sizeLimit) (c .root-count .ensures) ∙ large-roots (now (c .before .before .before .before .before .before .args .header)) (none-found sizeLimit (take 9 (now (c .before .before .before .before .before .before .args .header))) (sym (c .before .enum-told .given .1) ∙ c .before .before .before .first-over .ensures))
+returns c =
+    let firstOverAt = c .before .before .before in
+    let entry = firstOverAt .before .before .before in
+    let a = entry .args in
+    ap (ltb sizeLimit) (c .root-count .ensures) ∙ large-roots (now (a .header))
+    (none-found sizeLimit (take 9 (now (a .header))) (sym (c .before .enum-told .given .1) ∙ firstOverAt .first-over .ensures))
 
 returns-2 : tie.Need-returns-2
-returns-2 c = large-found (now (c .before .before .before .before .before .before .args .header)) (c .before .offender .given .0 .0) (sym (c .before .offender .given .1) ∙ c .before .before .before .first-over .ensures)
+returns-2 c =
+    let firstOverAt = c .before .before .before in
+    let entry = firstOverAt .before .before .before in
+    large-found (now (entry .args .header)) (c .before .offender .given .0 .0)
+    (sym (c .before .offender .given .1) ∙ firstOverAt .first-over .ensures)
 
 pub too-large-spec : {M : Type 1} → statement M
 too-large-spec =

@@ -16,7 +16,8 @@ shallower-requires c κs = search needs
 
 entry-requires : tie.Need-entry-requires
 entry-requires c κs =
-    let p = c .before .before .before .before .pre in
+    let entry = c .before .before .before .before in
+    let p = entry .pre in
     (back-room (p .3), omega (arith, back-depth (p .3), c .before .if1 .left, ap (λ (w : Walk). w .depth) (c .shallower .ensures)))
 
 enum-known-frame : tie.Need-enum-known-frame
@@ -26,10 +27,20 @@ enum-known-frame-2 : tie.Need-enum-known-frame-2
 enum-known-frame-2 c = c .match .keys2
 
 returns-2 : tie.Need-returns-2
-returns-2 c = λ gates map out sources o k. returns-first k (c .before .before .before .before .before .if1 .left) (c .before .before .before .before .shallower .ensures) (c .before .before .before .entry .ensures) (c .before .frame .given .1)
+returns-2 c =
+    let entryAt = c .before .before .before in
+    let shallowerAt = entryAt .before in
+    let if1At = shallowerAt .before in
+    λ gates map out sources o k. returns-first k (if1At .if1 .left) (shallowerAt .shallower .ensures) (entryAt .entry .ensures)
+    (c .before .frame .given .1)
 
 returns-3 : tie.Need-returns-3
-returns-3 c = λ gates map out sources o k. returns-second k (c .before .before .before .before .before .if1 .left) (c .before .before .before .before .shallower .ensures) (c .before .before .before .entry .ensures) (c .before .frame2 .given .1)
+returns-3 c =
+    let entryAt = c .before .before .before in
+    let shallowerAt = entryAt .before in
+    let if1At = shallowerAt .before in
+    λ gates map out sources o k. returns-second k (if1At .if1 .left) (shallowerAt .shallower .ensures) (entryAt .entry .ensures)
+    (c .before .frame2 .given .1)
 
 pub back-spec : {M : Type 1} → statement M
 back-spec =

@@ -23,22 +23,33 @@ returns c = λ map out sources o k. first-none k (sym (c .before .before .gate-o
 
 push-requires : tie.Need-push-requires
 push-requires c κs =
-    let p = c .before .before .before .before .before .before .before .before .pre in
+    let entry = c .before .before .before .before .before .before .before .before in
+    let p = entry .pre in
     (first-reads (p .2) .room, first-depth (p .2), first-reads (p .2) .code)
 
 deeper-requires : tie.Need-deeper-requires
 deeper-requires c κs =
-    let p = c .before .before .before .before .before .before .before .before .before .before .before .pre in
+    let entry = c .before .before .before .before .before .before .before .before .before .before .before in
+    let p = entry .pre in
     omega (arith, first-depth (p .2), first-reads (p .2) .room .gates)
 
 second-of-requires : tie.Need-second-of-requires
-second-of-requires c κs = first-reads (c .before .before .before .before .before .before .before .before .before .before .before .before .pre .2) .number _ (sym (c .before .before .before .before .before .before .before .before .gate-of .ensures) ∙ c .before .before .before .before .before .before .number .given .1)
+second-of-requires c κs =
+    let numberAt = c .before .before .before .before .before .before in
+    let gateOfAt = numberAt .before .before in
+    let entry = gateOfAt .before .before .before .before in
+    first-reads (entry .pre .2) .number _ (sym (gateOfAt .gate-of .ensures) ∙ numberAt .number .given .1)
 
 same-length-2 : tie.Need-same-length-2
 same-length-2 c = c .before .before .before .before .push .kept .0
 
 returns-2 : tie.Need-returns-2
-returns-2 c = λ map out sources o k. as-transfer (c .before .deeper .ensures) (c .second-of .ensures) (c .before .before .before .before .push .ensures) (first-on k (sym (c .before .before .before .before .before .before .before .before .before .gate-of .ensures) ∙ c .before .before .before .before .before .before .before .number .given .1))
+returns-2 c =
+    let pushAt = c .before .before .before .before in
+    let numberAt = pushAt .before .before .before in
+    let gateOfAt = numberAt .before .before in
+    λ map out sources o k. as-transfer (c .before .deeper .ensures) (c .second-of .ensures) (pushAt .push .ensures)
+    (first-on k (sym (gateOfAt .gate-of .ensures) ∙ numberAt .number .given .1))
 
 pub first-input-spec : {M : Type 1} → statement M
 first-input-spec =

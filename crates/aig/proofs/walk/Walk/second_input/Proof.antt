@@ -7,7 +7,9 @@ use Rattle.aig.proofs.Closing.{second-none, second-reads, first-is-ther
 use Rattle.aig.proofs.Reading.{second-place}
 
 gate-of-requires : tie.Need-gate-of-requires
-gate-of-requires c κs = second-place (c .before .before .before .before .before .pre)
+gate-of-requires c κs =
+    let entry = c .before .before .before .before .before in
+    second-place (entry .pre)
 
 enum-known-number : tie.Need-enum-known-number
 enum-known-number c = c .match .keys1
@@ -22,7 +24,10 @@ returns : tie.Need-returns
 returns c = λ sources o k. second-none k (sym (c .before .before .gate-of .ensures) ∙ c .enum-told .given .1)
 
 first-of-requires : tie.Need-first-of-requires
-first-of-requires c κs = second-reads (c .before .before .before .before .before .before .before .before .before .pre .going) (sym (c .before .before .before .gate-of .ensures) ∙ c .before .number .given .1)
+first-of-requires c κs =
+    let gateOfAt = c .before .before .before in
+    let entry = gateOfAt .before .before .before .before .before .before in
+    second-reads (entry .pre .going) (sym (gateOfAt .gate-of .ensures) ∙ c .before .number .given .1)
 
 image-requires : tie.Need-image-requires
 image-requires c κs = tt
@@ -40,10 +45,20 @@ same-length-3 : tie.Need-same-length-3
 same-length-3 c = refl
 
 returns-2 : tie.Need-returns-2
-returns-2 c = λ sources o k. absurd (first-is-there k (sym (c .before .before .before .before .before .before .before .before .gate-of .ensures) ∙ c .before .before .before .before .before .before .number .given .1) (c .before .before .before .before .first-of .ensures) (c .before .before .image .ensures) (c .enum-told2 .given .1))
+returns-2 c =
+    let imageAt = c .before .before in
+    let firstOfAt = imageAt .before .before in
+    let numberAt = firstOfAt .before .before in
+    let gateOfAt = numberAt .before .before in
+    λ sources o k. absurd (first-is-there k (sym (gateOfAt .gate-of .ensures) ∙ numberAt .number .given .1) (firstOfAt .first-of .ensures)
+    (imageAt .image .ensures) (c .enum-told2 .given .1))
 
 second-of-requires : tie.Need-second-of-requires
-second-of-requires c κs = second-reads (c .before .before .before .before .before .before .before .before .before .before .before .before .before .before .before .pre .going) (sym (c .before .before .before .before .before .before .before .before .before .gate-of .ensures) ∙ c .before .before .before .before .before .before .before .number .given .1)
+second-of-requires c κs =
+    let numberAt = c .before .before .before .before .before .before .before in
+    let gateOfAt = numberAt .before .before in
+    let entry = gateOfAt .before .before .before .before .before .before in
+    second-reads (entry .pre .going) (sym (gateOfAt .gate-of .ensures) ∙ numberAt .number .given .1)
 
 image-requires-2 : tie.Need-image-requires-2
 image-requires-2 c κs = tt
@@ -61,28 +76,74 @@ same-length-5 : tie.Need-same-length-5
 same-length-5 c = refl
 
 returns-3 : tie.Need-returns-3
-returns-3 c = λ sources o k. absurd (second-is-there k (sym (c .before .before .before .before .before .before .before .before .before .before .before .before .before .before .gate-of .ensures) ∙ c .before .before .before .before .before .before .before .before .before .before .before .before .number .given .1) (c .before .before .before .before .second-of .ensures) (c .before .before .image3 .ensures) (c .enum-told3 .given .1))
+returns-3 c =
+    let image3At = c .before .before in
+    let secondOfAt = image3At .before .before in
+    let numberAt = secondOfAt .before .before .before .before .before .before .before .before in
+    let gateOfAt = numberAt .before .before in
+    λ sources o k. absurd (second-is-there k (sym (gateOfAt .gate-of .ensures) ∙ numberAt .number .given .1) (secondOfAt .second-of .ensures)
+    (image3At .image3 .ensures) (c .enum-told3 .given .1))
 
 output-of-requires : tie.Need-output-of-requires
-output-of-requires c κs = second-reads (c .before .before .before .before .before .before .before .before .before .before .before .before .before .before .before .before .before .before .before .before .before .pre .going) (sym (c .before .before .before .before .before .before .before .before .before .before .before .before .before .before .before .gate-of .ensures) ∙ c .before .before .before .before .before .before .before .before .before .before .before .before .before .number .given .1)
+output-of-requires c κs =
+    let numberAt = c .before .before .before .before .before .before .before .before .before .before .before .before .before in
+    let gateOfAt = numberAt .before .before in
+    let entry = gateOfAt .before .before .before .before .before .before in
+    second-reads (entry .pre .going) (sym (gateOfAt .gate-of .ensures) ∙ numberAt .number .given .1)
 
 of-requires : tie.Need-of-requires
 of-requires c κs = tt
 
 settle-requires : tie.Need-settle-requires
-settle-requires c κs = can-settle (c .before .before .before .before .before .before .before .before .before .before .before .before .before .before .before .before .before .before .before .before .before .before .before .before .before .before .pre .going) (sym (c .before .before .before .before .before .before .before .before .before .before .before .before .before .before .before .before .before .before .before .before .gate-of .ensures) ∙ c .before .before .before .before .before .before .before .before .before .before .before .before .before .before .before .before .before .before .number .given .1) (c .before .before .before .before .before .before .before .before .before .before .before .before .before .before .before .before .first-of .ensures) (c .before .before .before .before .before .before .before .before .before .before .second-of .ensures) (c .before .before .before .before .before .before .before .before .before .before .before .before .before .before .image .ensures) (c .before .before .before .before .before .before .before .before .image3 .ensures) (c .before .before .before .before .before .before .before .before .before .before .before .before .image2 .given .1) (c .before .before .before .before .before .before .image4 .given .1) (c .before .before .before .of .ensures)
+settle-requires c κs =
+    let ofAt = c .before .before .before in
+    let image4At = ofAt .before .before .before in
+    let image3At = image4At .before .before in
+    let secondOfAt = image3At .before .before in
+    let image2At = secondOfAt .before .before in
+    let imageAt = image2At .before .before in
+    let firstOfAt = imageAt .before .before in
+    let numberAt = firstOfAt .before .before in
+    let gateOfAt = numberAt .before .before in
+    let entry = gateOfAt .before .before .before .before .before .before in
+    can-settle (entry .pre .going) (sym (gateOfAt .gate-of .ensures) ∙ numberAt .number .given .1) (firstOfAt .first-of .ensures)
+    (secondOfAt .second-of .ensures) (imageAt .image .ensures) (image3At .image3 .ensures) (image2At .image2 .given .1) (image4At .image4 .given .1)
+    (ofAt .of .ensures)
 
 same-length-6 : tie.Need-same-length-6
-same-length-6 c = c .before .before .before .before .before .before .settle .kept .1 .1 .1 .1 .0
+same-length-6 c =
+    let settleAt = c .before .before .before .before .before .before in
+    let settleMapKept = settleAt .settle .kept .1 .1 .1 .1 .0 in
+    settleMapKept
 
 same-length-7 : tie.Need-same-length-7
-same-length-7 c = c .before .before .before .before .before .before .settle .kept .1 .1 .1 .1 .1 .0
+same-length-7 c =
+    let settleAt = c .before .before .before .before .before .before in
+    let settleOutKept = settleAt .settle .kept .1 .1 .1 .1 .1 .0 in
+    settleOutKept
 
 same-length-8 : tie.Need-same-length-8
-same-length-8 c = c .before .before .before .before .before .before .settle .kept .1 .1 .1 .1 .1 .1 .0
+same-length-8 c =
+    let settleAt = c .before .before .before .before .before .before in
+    let settleScratchKept = settleAt .settle .kept .1 .1 .1 .1 .1 .1 .0 in
+    settleScratchKept
 
 returns-4 : tie.Need-returns-4
-returns-4 c = λ sources o k. second-settled k (sym (c .before .before .before .before .before .before .before .before .before .before .before .before .before .before .before .before .before .before .before .before .before .before .before .before .before .before .before .gate-of .ensures) ∙ c .before .before .before .before .before .before .before .before .before .before .before .before .before .before .before .before .before .before .before .before .before .before .before .before .before .number .given .1) (c .before .before .before .before .before .before .before .before .before .before .before .before .before .before .before .before .before .before .before .before .before .before .before .first-of .ensures) (c .before .before .before .before .before .before .before .before .before .before .before .before .before .before .before .before .before .second-of .ensures) (c .before .before .before .before .before .before .before .before .before .before .before .before .before .before .before .before .before .before .before .before .before .image .ensures) (c .before .before .before .before .before .before .before .before .before .before .before .before .before .before .before .image3 .ensures) (c .before .before .before .before .before .before .before .before .before .before .before .before .before .before .before .before .before .before .before .image2 .given .1) (c .before .before .before .before .before .before .before .before .before .before .before .before .before .image4 .given .1) (c .before .before .before .before .before .before .before .before .before .before .of .ensures) (left _ _ _ _) (c .before .before .before .before .before .before .before .before .before .before .before .output-of .ensures) (c .before .before .before .before .before .before .settle .ensures (k .goes .work .made) (k .goes .holds .gatesMade))
+returns-4 c =
+    let settleAt = c .before .before .before .before .before .before in
+    let ofAt = settleAt .before .before .before .before in
+    let outputOfAt = ofAt .before in
+    let image4At = outputOfAt .before .before in
+    let image3At = image4At .before .before in
+    let secondOfAt = image3At .before .before in
+    let image2At = secondOfAt .before .before in
+    let imageAt = image2At .before .before in
+    let firstOfAt = imageAt .before .before in
+    let numberAt = firstOfAt .before .before in
+    let gateOfAt = numberAt .before .before in
+    λ sources o k. second-settled k (sym (gateOfAt .gate-of .ensures) ∙ numberAt .number .given .1) (firstOfAt .first-of .ensures)
+    (secondOfAt .second-of .ensures) (imageAt .image .ensures) (image3At .image3 .ensures) (image2At .image2 .given .1) (image4At .image4 .given .1)
+    (ofAt .of .ensures) (left _ _ _ _) (outputOfAt .output-of .ensures) (settleAt .settle .ensures (k .goes .work .made) (k .goes .holds .gatesMade))
 
 pub second-input-spec : {M : Type 1} → statement M
 second-input-spec =

@@ -9,7 +9,8 @@ use Rattle.aig.proofs.walk.Walk.settle.Tie as tie
 
 already-requires : tie.Need-already-requires
 already-requires c κs =
-    let entry = c .before .before .before .before .before in
+    let placeAt = c .before .before .before .before .before in
+    let entry = placeAt in
     entry .pre .seek
 
 enum-known-search : tie.Need-enum-known-search
@@ -31,13 +32,14 @@ link-if-requires c κs =
     let found = searched .already in (
       seek .madeIn .room,
       entry .pre .fits,
-      free-within (a .shape) (seek .made) (a .pair) (a .scratch .now) (a .out .now) (seek .madeIn) _ (found .result) _
-          (found .ensures (seek .made) (seek .madeIn)) (known .search2 .given .1),
+      free-within (a .shape) (seek .made) (a .pair) (a .scratch .now) (a .out .now) (seek .madeIn) _
+          (found .result) _ (found .ensures (seek .made) (seek .madeIn)) (known .search2 .given .1),
     )
 
 append-requires : tie.Need-append-requires
 append-requires c κs =
-    let linked = c .before .before .before .before in
+    let placeAt = c .before .before .before .before in
+    let linked = placeAt in
     let searched = linked .before .before .before .before in
     let entry = searched .before .before .before .before .before .before in
     omega (arith, out-length _ _ _ _ (entry .pre .seek .madeIn), entry .pre .fits)
@@ -81,7 +83,8 @@ same-length-6 c = search needs
 
 returns-2 : tie.Need-returns-2
 returns-2 c =
-    let inserted = c .before .before .before in
+    let placeAt = c .before .before .before in
+    let inserted = placeAt in
     let coded = inserted .before in
     let appended = coded .before .before .before .before in
     let linked = appended .before .before .before .before in

@@ -13,24 +13,33 @@ enum-known-image : tie.Need-enum-known-image
 enum-known-image c = c .match .keys1
 
 returns : tie.Need-returns
-returns c = λ out sources o k. transfer-mapped k (sym (c .before .before .before .image .ensures) ∙ c .before .image2 .given .1)
+returns c =
+    let imageAt = c .before .before .before in
+    λ out sources o k. transfer-mapped k (sym (imageAt .image .ensures) ∙ c .before .image2 .given .1)
 
 enum-told : tie.Need-enum-told
 enum-told c = c .match .keys2
 
 middle-requires : tie.Need-middle-requires
 middle-requires c κs =
-    let p = c .before .before .before .before .before .before .before .pre in
+    let entry = c .before .before .before .before .before .before .before in
+    let p = entry .pre in
     (transfer-reads (p .1) .room, transfer-depth (p .1))
 
 same-length : tie.Need-same-length
 same-length c = refl
 
 returns-2 : tie.Need-returns-2
-returns-2 c = λ out sources o k. transfer-cycle k (sym (c .before .before .before .before .before .image .ensures) ∙ c .before .before .before .enum-told .given .1) (sym (c .before .middle .ensures) ∙ c .if1 .taken)
+returns-2 c =
+    let enumToldAt = c .before .before .before in
+    let imageAt = enumToldAt .before .before in
+    λ out sources o k. transfer-cycle k (sym (imageAt .image .ensures) ∙ enumToldAt .enum-told .given .1)
+    (sym (c .before .middle .ensures) ∙ c .if1 .taken)
 
 gate-of-requires : tie.Need-gate-of-requires
-gate-of-requires c κs = transfer-reads (c .before .before .before .before .before .before .before .before .before .before .pre .1) .inTable
+gate-of-requires c κs =
+    let entry = c .before .before .before .before .before .before .before .before .before .before in
+    transfer-reads (entry .pre .1) .inTable
 
 enum-known-number : tie.Need-enum-known-number
 enum-known-number c = c .match2 .keys1
@@ -42,35 +51,73 @@ same-length-2 : tie.Need-same-length-2
 same-length-2 c = refl
 
 returns-3 : tie.Need-returns-3
-returns-3 c = λ out sources o k. transfer-undefined k (sym (c .before .before .before .before .before .before .before .before .before .image .ensures) ∙ c .before .before .before .before .before .before .before .enum-told .given .1) (sym (c .before .before .before .before .before .middle .ensures) ∙ c .before .before .before .before .if1 .left) (sym (c .before .before .gate-of .ensures) ∙ c .enum-told2 .given .1)
+returns-3 c =
+    let gateOfAt = c .before .before in
+    let if1At = gateOfAt .before .before in
+    let middleAt = if1At .before in
+    let enumToldAt = middleAt .before .before in
+    let imageAt = enumToldAt .before .before in
+    λ out sources o k. transfer-undefined k (sym (imageAt .image .ensures) ∙ enumToldAt .enum-told .given .1)
+    (sym (middleAt .middle .ensures) ∙ if1At .if1 .left) (sym (gateOfAt .gate-of .ensures) ∙ c .enum-told2 .given .1)
 
 mul-if2 : tie.Need-mul-if2
-mul-if2 c = record { fits = omega (arith, transfer-reads (c .before .before .before .before .before .before .before .before .before .before .before .before .before .before .before .pre .1) .room .gates) }
+mul-if2 c =
+    let entry = c .before .before .before .before .before .before .before .before .before .before .before .before .before .before .before in
+    record { fits = omega (arith, transfer-reads (entry .pre .1) .room .gates) }
 
 same-length-3 : tie.Need-same-length-3
 same-length-3 c = refl
 
 returns-4 : tie.Need-returns-4
-returns-4 c = λ out sources o k. transfer-deep k (sym (c .before .before .before .before .before .before .before .before .before .before .before .before .before .image .ensures) ∙ c .before .before .before .before .before .before .before .before .before .before .before .enum-told .given .1) (sym (c .before .before .before .before .before .before .before .before .before .middle .ensures) ∙ c .before .before .before .before .before .before .before .before .if1 .left) (sym (c .before .before .before .before .before .before .gate-of .ensures) ∙ c .before .before .before .before .number .given .1) (c .if2 .taken)
+returns-4 c =
+    let numberAt = c .before .before .before .before in
+    let gateOfAt = numberAt .before .before in
+    let if1At = gateOfAt .before .before in
+    let middleAt = if1At .before in
+    let enumToldAt = middleAt .before .before in
+    let imageAt = enumToldAt .before .before in
+    λ out sources o k. transfer-deep k (sym (imageAt .image .ensures) ∙ enumToldAt .enum-told .given .1)
+    (sym (middleAt .middle .ensures) ∙ if1At .if1 .left) (sym (gateOfAt .gate-of .ensures) ∙ numberAt .number .given .1) (c .if2 .taken)
 
 push-requires : tie.Need-push-requires
 push-requires c κs =
-    let p = c .before .before .before .before .before .before .before .before .before .before .before .before .before .before .before .before .before .before .pre in
+    let entry =
+    c .before .before .before .before .before .before .before .before .before .before .before .before .before .before
+    .before .before .before .before in
+    let p = entry .pre in
     (transfer-reads (p .1) .room, omega (arith, transfer-depth (p .1), c .before .if2 .left), transfer-reads (p .1) .code)
 
 deeper-requires : tie.Need-deeper-requires
 deeper-requires c κs =
-    let p = c .before .before .before .before .before .before .before .before .before .before .before .before .before .before .before .before .before .before .before .before .before .pre in
+    let entry =
+    c .before .before .before .before .before .before .before .before .before .before .before .before .before .before
+    .before .before .before .before .before .before .before in
+    let p = entry .pre in
     omega (arith, transfer-depth (p .1), transfer-reads (p .1) .room .gates)
 
 first-of-requires : tie.Need-first-of-requires
-first-of-requires c κs = transfer-reads (c .before .before .before .before .before .before .before .before .before .before .before .before .before .before .before .before .before .before .before .before .before .before .pre .1) .number _ (sym (c .before .before .before .before .before .before .before .before .before .before .before .gate-of .ensures) ∙ c .before .before .before .before .before .before .before .before .before .number .given .1)
+first-of-requires c κs =
+    let numberAt = c .before .before .before .before .before .before .before .before .before in
+    let gateOfAt = numberAt .before .before in
+    let entry = gateOfAt .before .before .before .before .before .before .before .before .before .before .before in
+    transfer-reads (entry .pre .1) .number _ (sym (gateOfAt .gate-of .ensures) ∙ numberAt .number .given .1)
 
 same-length-4 : tie.Need-same-length-4
 same-length-4 c = c .before .before .before .before .push .kept .0
 
 returns-5 : tie.Need-returns-5
-returns-5 c = λ out sources o k. as-transfer (c .before .deeper .ensures) (c .first-of .ensures) (c .before .before .before .before .push .ensures) (transfer-enter k (sym (c .before .before .before .before .before .before .before .before .before .before .before .before .before .before .before .before .before .before .before .image .ensures) ∙ c .before .before .before .before .before .before .before .before .before .before .before .before .before .before .before .before .before .enum-told .given .1) (sym (c .before .before .before .before .before .before .before .before .before .before .before .before .before .before .before .middle .ensures) ∙ c .before .before .before .before .before .before .before .before .before .before .before .before .before .before .if1 .left) (sym (c .before .before .before .before .before .before .before .before .before .before .before .before .gate-of .ensures) ∙ c .before .before .before .before .before .before .before .before .before .before .number .given .1) (c .before .before .before .before .before .before .if2 .left))
+returns-5 c =
+    let pushAt = c .before .before .before .before in
+    let if2At = pushAt .before .before in
+    let numberAt = if2At .before .before .before .before in
+    let gateOfAt = numberAt .before .before in
+    let if1At = gateOfAt .before .before in
+    let middleAt = if1At .before in
+    let enumToldAt = middleAt .before .before in
+    let imageAt = enumToldAt .before .before in
+    λ out sources o k. as-transfer (c .before .deeper .ensures) (c .first-of .ensures) (pushAt .push .ensures)
+    (transfer-enter k (sym (imageAt .image .ensures) ∙ enumToldAt .enum-told .given .1) (sym (middleAt .middle .ensures) ∙ if1At .if1 .left)
+    (sym (gateOfAt .gate-of .ensures) ∙ numberAt .number .given .1) (if2At .if2 .left))
 
 pub transfer-spec : {M : Type 1} → statement M
 transfer-spec =
