@@ -21,8 +21,7 @@ use Rattle.circuit.specs.Tested.{Tested}
 use Rattle.circuit.proofs.Words.{pairs-length}
 use Rattle.circuit.proofs.Renumber.{Done, Answered}
 use Rattle.circuit.proofs.Outcome as O
-use Rattle.lent.specs.Over.{over}
-use Rattle.lent.proofs.Rows.{over-long}
+use Rattle.circuit.proofs.Outcome.{onto-long}
 use Rattle.lent.proofs.Entries.{images-length}
 use Rattle.ending.specs.declared.Walked.{Walked}
 use Rattle.ending.specs.Ending.{madeWith, ended}
@@ -37,8 +36,8 @@ joins k x y ws e f h =
     sym (take-append-drop k x) ∙ ap₂ {C = List ℕ} (λ (p q : List ℕ). p ++ q) e (f ∙ ap (λ (j : ℕ). drop j y) (sym h))
 
 -- words over the front of a list that has the words of another past it
-over-past : (ws x y : List ℕ) → length ws ≤ length x → drop (length ws) x ≡ drop (length ws) y → over ws x ≡ onto ws y
-over-past ws x y h e = over-long ws x h ∙ ap (λ (t : List ℕ). ws ++ t) e
+onto-past : (ws x y : List ℕ) → length ws ≤ length x → drop (length ws) x ≡ drop (length ws) y → onto ws x ≡ onto ws y
+onto-past ws x y h e = onto-long ws x h ∙ ap (λ (t : List ℕ). ws ++ t) e
 
 -- the images in a map are those in its front, if that has a word for every variable
 images-front : (n : ℕ) (m cs : List ℕ) → ((c : ℕ) → In c cs → var c < n) → imagesIn m cs ≡ imagesIn (take n m) cs
@@ -80,19 +79,19 @@ module _ (l : Lent) (p : Tested l) where
     left = lentOf (l .circuit) (l .inputs) (l .states) (l .nexts) (l .gates) (l .roots) m (l .nextImages) (l .rootImages) g s
 
     -- zeros, or other words, over as much of a list as is named
-    fill-is : (v n : ℕ) (x y : List ℕ) → n ≤ length x → drop n x ≡ drop n y → over (replicate n v) x ≡ onto (replicate n v) y
+    fill-is : (v n : ℕ) (x y : List ℕ) → n ≤ length x → drop n x ≡ drop n y → onto (replicate n v) x ≡ onto (replicate n v) y
     fill-is v n x y h e =
         let i : length (replicate n v) ≡ n = length-replicate n v in
-        over-past (replicate n v) x y (omega arith) (ap (λ (j : ℕ). drop j x) i ∙ e ∙ ap (λ (j : ℕ). drop j y) (sym i))
+        onto-past (replicate n v) x y (omega arith) (ap (λ (j : ℕ). drop j x) i ∙ e ∙ ap (λ (j : ℕ). drop j y) (sym i))
 
-    scratch-is : over (zeros (scratchWords K)) s ≡ onto (zeros (scratchWords K)) (l .scratch)
+    scratch-is : onto (zeros (scratchWords K)) s ≡ onto (zeros (scratchWords K)) (l .scratch)
     scratch-is = fill-is 0 (scratchWords K) s (l .scratch) (omega (arith, room .scratch, es)) (k .pastScratch)
 
     -- the images of a list of the circuit's codes
     images-are : (w : Work) (cs y : List ℕ) → take (mapWords K) m ≡ w .images → ((c : ℕ) → In c cs → c ≤ 2 * K .top + 1) → length cs ≤ length y
-        → over (imagesIn m cs) y ≡ onto (imagesIn (w .images) cs) y
+        → onto (imagesIn m cs) y ≡ onto (imagesIn (w .images) cs) y
     images-are w cs y e low h =
-        over-long (imagesIn m cs) y (omega (arith, images-length m cs, h))
+        onto-long (imagesIn m cs) y (omega (arith, images-length m cs, h))
         ∙ ap (λ (is : List ℕ). onto is y) (images-front (mapWords K) m cs (λ c i. omega (arith, low c i)) ∙ ap (λ (x : List ℕ). imagesIn x cs) e)
 
     succeeds : (w : Work) → renumber K ≡ reached w → WalkEnds K (reached w) r (take (mapWords K) m) (take (2 * length (K .gates)) g)

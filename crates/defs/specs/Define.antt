@@ -38,7 +38,7 @@ unfoldable pub defineSources : List ℕ → List ℕ → Defined
 defineSources t [] = tabled t F.Nothing
 defineSources t (d ∷ ds) = andThen (defineAt t d 1) (λ w. defineSources w ds)
 
--- the mark of gate k, as far as a word holds it
+-- the mark of gate k. The remainder is there so that every number has a mark: where check 1 has passed it changes nothing
 unfoldable pub markOf : ℕ → ℕ
 markOf k = (k + 2) % 2 ^ 32
 

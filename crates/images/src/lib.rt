@@ -4,8 +4,8 @@ ghost use Prim.Native.Nat.{_+_, _*_, _^_, _<_};
 ghost use lib.ListN.{length};
 ghost use Rattle.circuit.specs.Circuit.{storeFrom};
 ghost use Rattle.circuit.specs.Ordered.{imagesIn};
-ghost use Rattle.lent.specs.Over.{over};
 ghost use Rattle.images.specs.Begin.{begun};
+ghost use Rattle.circuit.specs.Outcome.{onto};
 use lent::map;
 use lent::words;
 use lit::Lit;
@@ -46,7 +46,7 @@ pub fn begin(map: &mut [u32], inputs: &[u32], states: &[u32])
 
 // The image of each literal of a list, over the front of another.
 pub fn images(map: &[u32], literals: &[u32], out: &mut [u32])
-    ensures { λ _. ⌜ now (out .exit) ≡ over (imagesIn (now (map .entry)) (now (literals .entry))) (now (out .entry)) ⌝ }
+    ensures { λ _. ⌜ now (out .exit) ≡ onto (imagesIn (now (map .entry)) (now (literals .entry))) (now (out .entry)) ⌝ }
 {
     let mut i = 0;
     while i < literals.len() {
