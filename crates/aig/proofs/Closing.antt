@@ -13,15 +13,14 @@ use Rattle.circuit.specs.declared.Image.{Image}
 use Rattle.circuit.specs.declared.Image.the-variants.{Absent, Code}
 use Rattle.circuit.specs.declared.Refusal.the-variants.{Undefined}
 use Rattle.circuit.specs.Graph.{Gate, gateFor}
-use Rattle.circuit.specs.Map.{noImage, imageIn, codeOf}
+use Rattle.circuit.specs.Map.{noImage, imageIn, codeOf, entry, codeIn}
 use Rattle.circuit.specs.Walk.{Net, Work, Out, sourceCount, firstCode, nextCode, already, settleAs, settleOn, settle, orElse, foldedIf, madeIf}
-use Rattle.circuit.specs.Machine.{Machine, goes, step}
-use Rattle.circuit.specs.Outcome.{gatesOf}
-use Rattle.circuit.proofs.Map.{entry, codeIn, code-image}
+use Rattle.circuit.specs.Machine.{Machine, goes, step, FrameOk}
+use Rattle.circuit.specs.Outcome.{gatesOf, gateAt}
+use Rattle.circuit.proofs.Map.{code-image}
 use Rattle.circuit.proofs.Graph.{gateFor-of}
 use Rattle.circuit.proofs.Invariant.{flipped-below}
-use Rattle.circuit.proofs.Machine.{FrameOk, gate-fits}
-use Rattle.circuit.proofs.Words.{gateAt}
+use Rattle.circuit.proofs.Machine.{gate-fits}
 use Rattle.aig.specs.declared.shape.Shape.{Shape}
 use Rattle.fold.specs.declared.Pair.{Pair}
 use Rattle.aig.specs.declared.trie.Search.{Search}

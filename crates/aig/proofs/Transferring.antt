@@ -16,10 +16,8 @@ use Rattle.circuit.specs.declared.Refusal.the-variants.{Undefined, Cycle, Deep}
 use Rattle.circuit.specs.Graph.{gateFor}
 use Rattle.circuit.specs.Map.{imageIn}
 use Rattle.circuit.specs.Walk.{Work, Out, stopped, isMiddle}
-use Rattle.circuit.specs.Machine.{Frame, pathOf, Machine, goes, ends, step}
-use Rattle.circuit.specs.Outcome.{gatesOf}
-use Rattle.circuit.proofs.Machine.{Running, comesTo}
-use Rattle.circuit.proofs.Words.{gateAt}
+use Rattle.circuit.specs.Machine.{Frame, pathOf, Machine, goes, ends, step, Running, comesTo}
+use Rattle.circuit.specs.Outcome.{gatesOf, gateAt}
 use Rattle.aig.specs.declared.shape.Shape.{Shape}
 use Rattle.aig.specs.declared.table.GateNumber.the-variants.{Number, Nothing}
 use Rattle.aig.specs.declared.stack.Frame.the-variants as entry

@@ -7,10 +7,9 @@ use lib.ListN.{length, getD, take}
 use Rattle.lit.specs.Code.{var}
 use Rattle.circuit.specs.Graph.{DefinedOnce}
 use Rattle.circuit.specs.Walk.{Net, Work, Out, reached, stopped}
-use Rattle.circuit.specs.Machine.{Frame, transfer, back, Machine, stackWords}
+use Rattle.circuit.specs.Machine.{Frame, transfer, back, Machine, stackWords, Running, comesTo}
 use Rattle.circuit.specs.Outcome.{gatesOf}
-use Rattle.circuit.proofs.Invariant.{Sized, Inv}
-use Rattle.circuit.proofs.Machine.{Running, comesTo}
+use Rattle.circuit.specs.Invariant.{Sized, Inv}
 use Rattle.aig.specs.declared.shape.Shape.{Shape}
 use Rattle.aig.specs.declared.walk.Walk.{Walk}
 use Rattle.aig.specs.declared.walk.State.{State}

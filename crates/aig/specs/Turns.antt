@@ -6,7 +6,7 @@ use lib.Dec.{eqb}
 use lib.ListN.{length, take}
 use Rattle.circuit.specs.Walk.{Out, stopped}
 use Rattle.circuit.specs.Outcome.{gatesOf}
-use Rattle.circuit.proofs.Settled.{settled}
+use Rattle.circuit.specs.Invariant.{settled}
 use Rattle.aig.specs.declared.shape.Shape.{Shape}
 use Rattle.aig.specs.declared.walk.State.{State}
 use Rattle.aig.specs.declared.walk.State.the-variants.{Transfer, First, Second, Return, Reached, Stopped}

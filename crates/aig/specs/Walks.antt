@@ -7,7 +7,7 @@ use lib.ListN.{length, getD}
 use Rattle.lit.specs.Code.{var}
 use Rattle.circuit.specs.Walk.{Work, Out, stopped, walkAll}
 use Rattle.circuit.specs.Outcome.{gatesOf}
-use Rattle.circuit.proofs.Invariant.{Inv}
+use Rattle.circuit.specs.Invariant.{Inv}
 use Rattle.aig.specs.declared.shape.Shape.{Shape}
 use Rattle.ending.specs.declared.Walked.{Walked}
 use Rattle.ending.specs.declared.Walked.the-variants.{Reached, Stopped}

@@ -12,16 +12,8 @@ use lib.Seq.{getD-set-same, getD-set-other}
 use Rattle.lit.specs.Code.{var, flipped, literal}
 use Rattle.circuit.specs.declared.Image.{Image}
 use Rattle.circuit.specs.declared.Image.the-variants.{Absent, Code}
-use Rattle.circuit.specs.Map.{noImage, entryImage, imageIn, store, codeOf}
+use Rattle.circuit.specs.Map.{noImage, entryImage, imageIn, store, codeOf, entry, codeIn}
 use Rattle.circuit.proofs.Tests.{Same, same, other, sameTest}
-
--- a variable's entry
-abbrev pub entry : List ℕ → ℕ → ℕ
-entry m v = getD m v noImage
-
--- the code of a literal whose variable has an entry
-abbrev pub codeIn : List ℕ → ℕ → ℕ
-codeIn m c = flipped (entry m (var c)) c
 
 pub entry-same : (m : List ℕ) (d t : ℕ) → var d < length m → entry (store m d t) (var d) ≡ flipped t d
 unfolding store

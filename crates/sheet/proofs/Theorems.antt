@@ -17,12 +17,11 @@ use Rattle.circuit.proofs.Outcome.{conclusion-of}
 use Rattle.sheet_lines.specs.Lines.{refusedLine}
 use Rattle.sheet_read.specs.Sheet.{sheetLimit}
 use Rattle.sheet.specs.Circuit.{recordOn}
-use Rattle.sheet.specs.Report.{reportOf}
+use Rattle.sheet.specs.Report.{reportOf, Ends}
 use Rattle.sheet.specs.Promise.{Shaped, Roomy, circuitIn}
 use Rattle.sheet.proofs.Answers as answers
 use Rattle.sheet.proofs.Room as room
 use Rattle.sheet.proofs.Newlines as newlines
-use Rattle.sheet.proofs.Newlines.{Ends}
 use Rattle.sheet.proofs.Reports as reports
 use Rattle.sheet.proofs.report.Kinds as report-kinds
 use Rattle.sheet.proofs.report.Reads as report-contract

@@ -29,3 +29,8 @@ readText Whole C = outText C (renumber C)
 -- the text for a sheet
 unfoldable pub reportOf : List ℕ → List ℕ
 reportOf s = readText (readOf s .reading) (circuitOn (readOf s .header) (readOf s .codes))
+
+-- a newline stands last
+pub record Ends (bs : List ℕ) : Type 0 where
+  pub front : List ℕ
+  pub last : bs ≡ front ++ (10 ∷ [])
