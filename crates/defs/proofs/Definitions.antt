@@ -10,7 +10,7 @@ use Rattle.lit.specs.Code.{var, literal}
 use Rattle.lit.specs.declared.Lit.{Lit}
 use Rattle.circuit.specs.declared.Refusal.the-variants.{Again, StateAgain}
 use Rattle.circuit.specs.Graph.{Gate}
-use Rattle.circuit.specs.Outcome.{gatesOf}
+use Rattle.circuit.specs.Outcome.{gatesOf, gateAt}
 use Rattle.circuit.proofs.Words.{gates-length}
 use Rattle.circuit.proofs.Words as W
 use Rattle.checks.specs.declared.Found.{Found}
@@ -52,7 +52,7 @@ unfolding defineSources
 sources-end t ds i h = rw (drop-at-end ds i h)
 
 -- gates, of flat words
-pub gates-at : (ws : List ℕ) (k : ℕ) → k < length ws / 3 → getD (gatesOf ws) k noGate ≡ W.gateAt ws k
+pub gates-at : (ws : List ℕ) (k : ℕ) → k < length ws / 3 → getD (gatesOf ws) k noGate ≡ gateAt ws k
 gates-at [] k h = absurd (omega arith)
 gates-at (o ∷ []) k h = absurd (omega arith)
 gates-at (o ∷ a ∷ []) k h = absurd (omega arith)

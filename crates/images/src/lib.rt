@@ -6,12 +6,10 @@ ghost use Rattle.circuit.specs.Circuit.{storeFrom};
 ghost use Rattle.circuit.specs.Ordered.{imagesIn};
 ghost use Rattle.images.specs.Begin.{begun};
 ghost use Rattle.circuit.specs.Outcome.{onto};
+use circuit::LIMIT;
 use lent::map;
 use lent::words;
 use lit::Lit;
-
-// The most inputs, and the most latches, that get codes.
-const LIMIT: usize = 1048575;
 
 // Gives the literals of a list the codes first, first + 2, ..
 fn store_from(map: &mut [u32], literals: &[u32], first: u32)
