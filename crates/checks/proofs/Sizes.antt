@@ -197,13 +197,17 @@ module _ (l : Lent) where
   unfolding unequal misshapen
   uneven-is = refl
 
+  pub sizing-is : sizing (l .circuit) (lengthsOf l)
+      ≡ failIf (tooBig (circuitOf l)) TooBig (failIf (misshapen l) Misshapen (failIf (tooShort l (circuitOf l)) Short Passed))
+  unfolding sizing
+  sizing-is = rw (big-is, uneven-is, short-is)
+
   -- so what check 4 says comes after them
   in-turn : passing l ≡ andThen (sizing (l .circuit) (lengthsOf l)) (failAt (firstOver (2 * circuitOf l .top + 1) (codes (circuitOf l))) Over Passed)
-  unfolding passing sizing
+  unfolding passing
   in-turn =
       let last = failAt (firstOver (2 * circuitOf l .top + 1) (codes (circuitOf l))) Over Passed in
-      rw (sym big-is, sym uneven-is, sym short-is)
-      (go (overLimit (circuitOf l .top) (lengthsOf l)) (unequal (l .circuit .counts) (lengthsOf l)) (lacks (circuitOf l .top) (lengthsOf l)) last)
+      go (tooBig (circuitOf l)) (misshapen l) (tooShort l (circuitOf l)) last ∙ ap (λ (c : Check). andThen c last) (sym sizing-is)
     where
       go : (a b c : Bool) (d : Check) → failIf a TooBig (failIf b Misshapen (failIf c Short d))
           ≡ andThen (failIf a TooBig (failIf b Misshapen (failIf c Short Passed))) d

@@ -234,6 +234,10 @@ onto-long ws lent h = rw (take-all (length lent) ws h)
 pub onto-whole : (ws lent : List ℕ) → length ws ≡ length lent → onto ws lent ≡ ws
 onto-whole ws lent e = rw (take-all (length lent) ws (omega arith), drop-of-length-le lent {i = length ws} (omega arith)) (append-nil ws)
 
+-- no words change nothing
+pub onto-none : (lent : List ℕ) → onto [] lent ≡ lent
+onto-none lent = onto-long [] lent (omega arith)
+
 pub onto-length : (ws lent : List ℕ) → length (onto ws lent) ≡ length lent
 onto-length ws lent =
     omega (

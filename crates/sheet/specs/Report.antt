@@ -1,6 +1,7 @@
 -- What the report program writes, as one function of the bytes that it is given. Assumes nothing.
 use Prim.Native.Nat.{ℕ}
-use mathlib.Core.List.{List}
+use mathlib.Core.Path.{_≡_}
+use mathlib.Core.List.{List, [], _∷_, _++_}
 use Rattle.circuit.specs.Walk.{Out, reached, stopped}
 use Rattle.circuit.specs.Circuit.{Circuit, renumber}
 use Rattle.circuit.specs.Ordered.{Ordered, orderedOf}
