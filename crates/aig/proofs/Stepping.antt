@@ -13,9 +13,9 @@ use Rattle.circuit.specs.declared.Refusal.the-variants.{Undefined, Cycle, Deep}
 use Rattle.circuit.specs.Graph.{Gate, DefinedOnce, gateFor}
 use Rattle.circuit.specs.Map.{imageIn}
 use Rattle.circuit.specs.Walk.{Net, Work, Out, reached, stopped, isMiddle, look, stackRoom, settle}
-use Rattle.circuit.specs.Machine.{Frame, transfer, back, Machine, goes, ends, pathOf, stepLook, stepBack, stepAt, step, Running, comesTo}
+use Rattle.circuit.specs.Machine.{Frame, transfer, back, Machine, goes, ends, pathOf, stepLook, stepBack, stepAt, step}
 use Rattle.circuit.proofs.Machine.{Follows, weight, Goes, step-follows, step-runs}
-use Rattle.circuit.specs.Invariant.{Sized}
+use Rattle.circuit.specs.Invariant.{Sized, Running, comesTo}
 
 -- about to walk c, with these frames and this work
 abbrev pub walking : List Frame → ℕ → Work → Machine

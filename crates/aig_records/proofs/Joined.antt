@@ -222,7 +222,7 @@ module _ (circuit : CircuitRecord) (inputs states nexts : List ℕ) (gates : Lis
       = ap length all ∙ omega (arith, length-append (flatOf gates) (drop k flat), length-drop k flat, long) in
       let back : drop (length (zeros m)) zs ≡ drop (length (zeros m)) flat =
       (ap (λ (j : ℕ). drop j zs) as-long ∙ ap (drop k) all ∙ drop-at (flatOf gates) (drop k flat) k long ∙ sym (ap (λ (j : ℕ). drop j flat) as-long)) in
-      ap (λ (gs : List ℕ). finished Passed (lent gs) zs) front 
+      ap (λ (gs : List ℕ). finished Passed (lent gs) zs) front
       ∙ ap (withFlat (outcome l))
       (onto-long (zeros m) zs (omega (arith, as-long)) ∙ ap (λ (ws : List ℕ). zeros m ++ ws) back ∙ sym (onto-long (zeros m) flat (omega (arith, as-long))))
 

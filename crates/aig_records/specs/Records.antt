@@ -19,7 +19,7 @@ abbrev pub flatOf : List GateRecord → List ℕ
 flatOf [] = []
 flatOf (g ∷ gs) = recordWords g ++ flatOf gs
 
--- words whose front is written over with the first gates, laid flat
+-- the first gates, laid flat, onto the front of words
 abbrev pub laidOnto : ℕ → List GateRecord → List ℕ → List ℕ
 laidOnto count gs ws = flatOf (take count gs) ++ drop (count * 3) ws
 

@@ -177,8 +177,7 @@ sizing-shaped circuit n e =
         let counts = not (eqb (total (circuit .counts)) (n .roots)) in
         let latches = not (eqb (n .states) (n .nexts)) in
         let two = or-false (counts || latches) (not (eqb (n .«left_over») 0)) q in
-        let one = or-false counts latches (two .0) in
-        (
+        let one = or-false counts latches (two .0) in (
           eqb-true (n .states) (n .nexts) (not-false (eqb (n .states) (n .nexts)) (one .1)),
           eqb-true (n .«left_over») 0 (not-false (eqb (n .«left_over») 0) (two .1)),
         )

@@ -15,7 +15,7 @@ use Rattle.lit.specs.declared.Lit.{Lit}
 use Rattle.lit.proofs.Flips.{flipped-twice}
 use Rattle.circuit.specs.declared.Summary.{Summary}
 use Rattle.circuit.specs.Graph.{In, Gate, outVar}
-use Rattle.circuit.specs.Map.{noImage, imageIn, codeOf, entry, codeIn}
+use Rattle.circuit.specs.Map.{noImage, imageIn, codeOf}
 use Rattle.circuit.specs.Walk.{sourceCount, Pair, Work, firstCode, foldedIf, reached}
 use Rattle.circuit.specs.Circuit.{Circuit, net}
 use Rattle.circuit.specs.Ordered.{imagesIn, orderedOf, noPair}
@@ -28,7 +28,7 @@ use Rattle.circuit.proofs.Words.{pairs-length, pairs-larger, pairs-smal
 use Rattle.circuit.proofs.Outcome.{agrees, roomy, success-of, onto-at}
 use Rattle.circuit.proofs.Lengths.{filled, keeps-past}
 use Rattle.circuit.proofs.Success as S
-use Rattle.circuit.specs.Invariant.{pair, Makes, Inv, FromGate, BothMapped, largerIn, smallerIn, Unfolded}
+use Rattle.circuit.specs.Invariant.{pair, Makes, Inv, FromGate, BothMapped, largerIn, smallerIn, Unfolded, entry, codeIn}
 
 getD-any : {A : Type 0} (xs : List A) (i : ℕ) (d d′ : A) → i < length xs → getD xs i d ≡ getD xs i d′
 getD-any [] i d d′ h = absurd (omega arith)

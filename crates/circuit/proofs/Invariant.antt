@@ -12,7 +12,7 @@ use lib.ListN.{length, getD}
 use Rattle.lit.specs.Code.{var, isOdd, flipped}
 use Rattle.lit.proofs.Flips.{flipped-twice, odd-false}
 use Rattle.circuit.specs.Graph.{In, Gate, Graph, outVar, DefinedOnce, Reach, here, Grounded}
-use Rattle.circuit.specs.Map.{noImage, store, entry, codeIn}
+use Rattle.circuit.specs.Map.{noImage, store}
 use Rattle.circuit.specs.Walk.{Net, sourceCount, Pair, Work, firstCode, nextCode, foldedIf, already, settleAs, settleOn, settle}
 use Rattle.circuit.specs.Ordered.{noPair, InOrder, flipIf}
 use Rattle.circuit.proofs.Tests.{le-or, Same, same, other, sameTest}
@@ -22,7 +22,7 @@ use Rattle.circuit.proofs.Meaning.{reads-like}
 use Rattle.circuit.proofs.Values.{val-flipped}
 use Rattle.circuit.proofs.Settle.{and-comm, Already, isNew, alreadyIs, Placed, placed-old, placed-new}
 use Rattle.circuit.proofs.Settled.{settled-le, settled-more, settled-room}
-use Rattle.circuit.specs.Invariant.{like, Reads, byGate, val, pair, Makes, Fresh, settled, Sized, BothMapped, largerIn, smallerIn, RuleFor, Unfolded, FromGate, Inv}
+use Rattle.circuit.specs.Invariant.{like, Reads, byGate, val, pair, Makes, Fresh, settled, Sized, BothMapped, largerIn, smallerIn, RuleFor, Unfolded, FromGate, Inv, entry, codeIn}
 
 -- the work has grown: what had an image keeps it, and what is new is reached from u
 pub record Grown (G : Graph) (w w′ : Work) (u : ℕ) : Type 0 where

@@ -15,15 +15,15 @@ use Rattle.circuit.specs.declared.Image.the-variants.{Absent, Code}
 use Rattle.circuit.specs.declared.Refusal.{Refusal}
 use Rattle.circuit.specs.declared.Refusal.the-variants.{Undefined, Deep}
 use Rattle.circuit.specs.Graph.{In, Gate, outVar, DefinedOnce, gateFor, Step, toFirst, toSecond, Reach, here, via, Grounded}
-use Rattle.circuit.specs.Map.{noImage, imageIn, entry}
+use Rattle.circuit.specs.Map.{noImage, imageIn}
 use Rattle.circuit.specs.Walk.{Net, Work, Out, reached, stopped, Look, mapped, refused, enter, isMiddle, lookAt, look, answer, andThen, throughInputs, walk, stackRoom, settle}
-use Rattle.circuit.specs.Machine.{Frame, At, transfer, back, Machine, Next, goes, ends, pathOf, pushed, stepLook, stepBack, stepAt, step, restWith, resume, comesToAt, comesTo, InputIs, FrameOk, Stack, AtOk, Running}
+use Rattle.circuit.specs.Machine.{Frame, At, transfer, back, Machine, Next, goes, ends, pathOf, pushed, stepLook, stepBack, stepAt, step}
 use Rattle.circuit.proofs.Tests.{Same, same, other, sameTest, AtMost, atMost, above, leTest}
 use Rattle.circuit.proofs.Graph.{GateFound, noGate, aGate, gateFound, one-gate, Reach-join}
 use Rattle.circuit.proofs.Settled.{settled-le, settled-more, settled-room}
 use Rattle.circuit.proofs.Invariant.{Grown, Settled, settle-ok}
 use Rattle.circuit.proofs.Walk.{Looking, hasImage, onPath, isUndefined, atGate, looking}
-use Rattle.circuit.specs.Invariant.{settled, Sized, Inv}
+use Rattle.circuit.specs.Invariant.{settled, Sized, Inv, restWith, resume, comesToAt, comesTo, InputIs, FrameOk, Stack, AtOk, Running, entry}
 
 abbrev pub Follows : Net → Out → Next → Type 0
 Follows N o (goes m) = comesTo N m ≡ o

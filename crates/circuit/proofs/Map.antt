@@ -12,8 +12,9 @@ use lib.Seq.{getD-set-same, getD-set-other}
 use Rattle.lit.specs.Code.{var, flipped, literal}
 use Rattle.circuit.specs.declared.Image.{Image}
 use Rattle.circuit.specs.declared.Image.the-variants.{Absent, Code}
-use Rattle.circuit.specs.Map.{noImage, entryImage, imageIn, store, codeOf, entry, codeIn}
+use Rattle.circuit.specs.Map.{noImage, entryImage, imageIn, store, codeOf}
 use Rattle.circuit.proofs.Tests.{Same, same, other, sameTest}
+use Rattle.circuit.specs.Invariant.{entry, codeIn}
 
 pub entry-same : (m : List ℕ) (d t : ℕ) → var d < length m → entry (store m d t) (var d) ≡ flipped t d
 unfolding store

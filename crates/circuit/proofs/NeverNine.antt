@@ -14,7 +14,7 @@ use Rattle.lit.specs.Code.{var, literal}
 use Rattle.circuit.specs.declared.Refusal.the-variants.{Deep}
 use Rattle.circuit.specs.Refusals.{refusalNumber}
 use Rattle.circuit.specs.Graph.{In, Distinct, Gate, outVar, DefinedOnce, Step, toFirst, toSecond, here}
-use Rattle.circuit.specs.Map.{noImage, entry}
+use Rattle.circuit.specs.Map.{noImage}
 use Rattle.circuit.specs.Walk.{Net, Work, Out, reached, stopped, Look, look, answer, andThen, throughInputs, walk, stackRoom, walkAll, settle}
 use Rattle.circuit.specs.Circuit.{elem}
 use Rattle.circuit.proofs.Tests.{lt-or, last-or, Same, same, other, sameTest}
@@ -22,7 +22,7 @@ use Rattle.circuit.proofs.Lists.{In-cases, In-getD, In-map, In-unmap, p
 use Rattle.circuit.proofs.Graph.{one-gate, Reach-join, Plus, Plus-step}
 use Rattle.circuit.proofs.Invariant.{Grown}
 use Rattle.circuit.proofs.Walk.{Looking, hasImage, onPath, isUndefined, atGate, looking, Post, walk-ok}
-use Rattle.circuit.specs.Invariant.{Sized, Inv}
+use Rattle.circuit.specs.Invariant.{Sized, Inv, entry}
 
 -- two places of a list hold the same number
 data Dup (xs : List ℕ) : Type 0 where

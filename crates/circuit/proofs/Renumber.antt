@@ -15,7 +15,7 @@ use Rattle.circuit.specs.declared.Refusal.the-variants as R
 use Rattle.circuit.specs.declared.Refusal.the-variants.{TooBig, Misshapen, Short, StateAgain, Undefined, Cycle, Deep}
 use Rattle.circuit.specs.Refusals.{refusalNumber}
 use Rattle.circuit.specs.Graph.{In, Distinct, Gate, outVar, defined, DefinedOnce, toFirst, toSecond, Reach, here, via, Loop}
-use Rattle.circuit.specs.Map.{noImage, entry}
+use Rattle.circuit.specs.Map.{noImage}
 use Rattle.circuit.specs.Walk.{Work, Out, reached, stopped, walkAll}
 use Rattle.circuit.specs.Circuit.{Circuit, graph, net, gateOutputs, gateCodes, latchCodes, codes, firstOver, firstAgain, definitions, start, walked, orRefuse, renumber}
 use Rattle.circuit.specs.Claims.{AllGrounded, Named, FirstOver, FirstAgain, IsUsed}
@@ -27,7 +27,7 @@ use Rattle.circuit.proofs.Walk.{Cause, AllPost, walkAll-ok}
 use Rattle.circuit.proofs.NeverNine.{NotDeep, never-nine}
 use Rattle.circuit.proofs.Start.{start-inv, start-only}
 use Rattle.circuit.proofs.Checks.{Over, noneOver, oneOver, overTest, Apart, Again, once, again, againTest, map-append, map-outputs, no-again, parts-join, parts-ig, parts-zero, parts-s, parts-s-ig}
-use Rattle.circuit.specs.Invariant.{Sized, Inv}
+use Rattle.circuit.specs.Invariant.{Sized, Inv, entry}
 
 -- what checks 1 and 2 leave
 pub record Limits (C : Circuit) : Type 0 where

@@ -9,9 +9,9 @@ use native.Mathlib.Omega.{arith}
 use lib.Dec.{eqb}
 use lib.ListN.{length}
 use Rattle.circuit.specs.Graph.{In, Gate, outVar}
-use Rattle.circuit.specs.Map.{noImage, entry}
+use Rattle.circuit.specs.Map.{noImage}
 use Rattle.circuit.proofs.Tests.{Same, same, other, sameTest}
-use Rattle.circuit.specs.Invariant.{oneOf, settled}
+use Rattle.circuit.specs.Invariant.{oneOf, settled, entry}
 
 oneOf-gone : (e : ℕ) → e ≡ noImage → oneOf e ≡ 0
 unfolding oneOf

@@ -9,7 +9,7 @@ use lib.ListN.{length, getD, replicate, length-replicate}
 use Rattle.lit.specs.Code.{var, isOdd, flipped}
 use Rattle.lit.proofs.Flips.{flipped-twice, odd-false}
 use Rattle.circuit.specs.Graph.{In, Distinct, Gate, outVar, DefinedOnce, Grounded}
-use Rattle.circuit.specs.Map.{noImage, store, entry, codeIn}
+use Rattle.circuit.specs.Map.{noImage, store}
 use Rattle.circuit.specs.Walk.{Net, sourceCount, Work, firstCode, nextCode}
 use Rattle.circuit.specs.Circuit.{storeFrom, start}
 use Rattle.circuit.specs.Ordered.{flipIf}
@@ -18,7 +18,7 @@ use Rattle.circuit.proofs.Lists.{In-getD, In-map, In-unmap}
 use Rattle.circuit.proofs.Graph.{source-defined, source-no-gate, zero-no-gate, zero-no-source, sources-distinct, Grounded-leaf}
 use Rattle.circuit.proofs.Values.{val-zero, val-source, val-flipped}
 use Rattle.circuit.proofs.Invariant.{half-double}
-use Rattle.circuit.specs.Invariant.{like, Reads, byConstant, bySource, val, Sized, Inv}
+use Rattle.circuit.specs.Invariant.{like, Reads, byConstant, bySource, val, Sized, Inv, entry, codeIn}
 
 storeFrom-length : (m : List ℕ) (t : ℕ) (ds : List ℕ) → length (storeFrom m t ds) ≡ length m
 storeFrom-length m t [] = refl

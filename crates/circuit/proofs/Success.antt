@@ -14,7 +14,7 @@ use Rattle.lit.specs.Code.{var, literal, flipped}
 use Rattle.lit.specs.declared.Lit.{Lit}
 use Rattle.circuit.specs.declared.Image.the-variants.{Absent}
 use Rattle.circuit.specs.Graph.{In, Means}
-use Rattle.circuit.specs.Map.{noImage, imageIn, imageOf, codeOf, entry, codeIn}
+use Rattle.circuit.specs.Map.{noImage, imageIn, imageOf, codeOf}
 use Rattle.circuit.specs.Walk.{sourceCount, Pair, Work, reached, firstCode, nextCode, already}
 use Rattle.circuit.specs.Circuit.{Circuit, graph, net, walked, gateOutputs}
 use Rattle.circuit.specs.Ordered.{Ordered, orderedWith, imagesIn, orderedOf, sourcesOf, orderedGraph, noPair, InOrder}
@@ -34,7 +34,7 @@ use Rattle.circuit.proofs.Ordered.{ordered-once, ordered-means}
 use Rattle.circuit.proofs.Renumber.{Done, sized, counting, reach-mapped}
 use Rattle.circuit.proofs.Words.{pairs-length, pairs-back}
 use Rattle.circuit.proofs.Outcome.{agrees, limits, tested-of, concluded, Concluded, roomy, success-from, success-of, onto-long, onto-take, onto-at, getD-map-in}
-use Rattle.circuit.specs.Invariant.{val, Inv}
+use Rattle.circuit.specs.Invariant.{val, Inv, entry, codeIn}
 
 module _ (l : Lent) (w : Work) (e : conclusion l ≡ reached w) where
   abbrev C : Circuit

@@ -12,8 +12,9 @@ use Rattle.circuit.specs.Graph.{In, Gate}
 use Rattle.circuit.specs.Walk.{Pair, isMiddle}
 use Rattle.circuit.specs.Machine.{Frame, pathOf, frameWord, stackWords}
 use Rattle.circuit.specs.Ordered.{noPair}
-use Rattle.circuit.specs.Outcome.{gatesOf, pairWords, pairsOf, gateAt}
+use Rattle.circuit.specs.Outcome.{gatesOf, pairWords, pairsOf}
 use Rattle.circuit.proofs.Tests.{last-or}
+use Rattle.circuit.specs.Claims.{gateAt}
 
 -- a word of the stack holds a literal and a phase
 pub word-lit : (f : Frame) → frameWord f / 2 ≡ f .lit

@@ -1,18 +1,28 @@
--- What the walk keeps true of its work: words of the contracts inside the renumbering and of proofs. That it is kept is proved in proofs/Invariant.antt. Assumes
--- nothing.
-use Prim.Native.Nat.{ℕ, _+_, _*_, _<_, _≤_, min, max}
+-- What the walk keeps true of its work, and of the machine that does it: words of the contracts inside the renumbering and of proofs. That it is kept is
+-- proved in proofs/Invariant.antt and proofs/Machine.antt. Assumes nothing.
+use Prim.Native.Nat.{ℕ, _+_, _*_, _-_, _<_, _≤_, min, max}
 use mathlib.Core.Path.{_≡_}
 use mathlib.Core.Logic.{_⊎_, _≢_}
-use mathlib.Core.Bool.{Bool, false, cond, _&&_}
-use mathlib.Core.Option.{none, some}
+use mathlib.Core.Bool.{Bool, true, false, cond, _&&_}
+use mathlib.Core.Option.{Option, none, some}
 use mathlib.Core.List.{List, [], _∷_, map}
 use lib.Dec.{eqb}
 use lib.ListN.{length, getD, take}
-use Rattle.lit.specs.Code.{var, isOdd}
-use Rattle.circuit.specs.Graph.{In, Gate, Graph, outVar, Grounded}
-use Rattle.circuit.specs.Map.{noImage, entry, codeIn}
-use Rattle.circuit.specs.Walk.{Net, sourceCount, Pair, Work, firstCode, nextCode, foldedIf, already}
+use Rattle.lit.specs.Code.{var, isOdd, flipped, literal}
+use Rattle.circuit.specs.declared.Refusal.the-variants.{Undefined}
+use Rattle.circuit.specs.Graph.{In, Gate, Graph, outVar, gateFor, Grounded}
+use Rattle.circuit.specs.Map.{noImage}
+use Rattle.circuit.specs.Walk.{Net, sourceCount, Pair, Work, Out, reached, stopped, andThen, walk, settle, stackRoom, firstCode, nextCode, foldedIf, already}
 use Rattle.circuit.specs.Ordered.{noPair, InOrder, flipIf, bitOf, valuesOf, givenFrom}
+use Rattle.circuit.specs.Machine.{Frame, At, transfer, back, Machine, pathOf}
+
+-- a variable's entry
+abbrev pub entry : List ℕ → ℕ → ℕ
+entry m v = getD m v noImage
+
+-- the code of a literal whose variable has an entry
+abbrev pub codeIn : List ℕ → ℕ → ℕ
+codeIn m c = flipped (entry m (var c)) c
 
 -- the bit of c where d, a literal of the same variable, has the bit x
 unfoldable pub like : ℕ → ℕ → Bool → Bool
@@ -26,7 +36,7 @@ pub data Reads (G : Graph) (given : ℕ → Bool) : ℕ → Bool → Type 0 wher
   byGate : {c : ℕ} {b : Bool} (g : Gate) (x y : Bool) → In g (G .gates) → var c ≡ outVar g
       → Reads G given (g .first) x → Reads G given (g .second) y → b ≡ like c (g .output) (x && y) → Reads G given c b
 
--- the bit of a code over n sources and the gates made
+-- the bit of a code, of n sources and the gates made
 unfoldable pub val : ℕ → (ℕ → Bool) → List Pair → ℕ → Bool
 val n given made t = bitOf (valuesOf made (givenFrom given 0 n)) t
 
@@ -113,3 +123,55 @@ pub record Inv (N : Net) (top : ℕ) (w : Work) : Type 0 where
       → Unfolded N (w .images) g → Unfolded N (w .images) g′ → codeIn (w .images) (g .output) ≡ codeIn (w .images) (g′ .output) → g ≡ g′
   -- each gate made is the image of a gate
   pub from : (j : ℕ) → j < length (w .made) → FromGate N (w .images) (w .made) j
+
+-- the machine
+
+-- what is left to do for a literal once the input under way has its image
+abbrev pub restWith : Net → ℕ → List ℕ → ℕ → Work → Bool → Option Gate → Out
+restWith N room path c w onSecond none = stopped (Undefined (literal c))
+restWith N room path c w false (some g) = andThen (walk N room path w (g .second)) (λ w₂. reached (settle N w₂ g))
+restWith N room path c w true (some g) = reached (settle N w g)
+
+-- what the whole comes to, where the walk under way comes to o
+unfoldable pub resume : Net → List Frame → Out → Out
+resume N [] o = o
+resume N (f ∷ fs) o =
+    resume N fs
+    (andThen o (λ w. restWith N (stackRoom N - length (f ∷ fs)) (pathOf (f ∷ fs)) (f .lit) w (f .onSecond) (gateFor (N .graph .gates) (var (f .lit)))))
+
+-- and where the machine is
+abbrev pub comesToAt : Net → List Frame → At → Work → Out
+comesToAt N fs (transfer c) w = resume N fs (walk N (stackRoom N - length fs) (pathOf fs) w c)
+comesToAt N fs back w = resume N fs (reached w)
+
+abbrev pub comesTo : Net → Machine → Out
+comesTo N m = comesToAt N (m .frames) (m .at) (m .work)
+
+-- the input of a gate that a frame has under way, and what is known of the other
+abbrev pub InputIs : Work → Bool → Gate → ℕ → Type 0
+InputIs w false g c = c ≡ g .first
+InputIs w true g c = (c ≡ g .second) × (entry (w .images) (var (g .first)) ≢ noImage)
+
+-- a frame is a gate's that has no image yet, and one of its inputs is under way
+pub record FrameOk (N : Net) (w : Work) (f : Frame) (c : ℕ) : Type 0 where
+  pub g : Gate
+  pub isGate : In g (N .graph .gates)
+  pub names : outVar g ≡ var (f .lit)
+  pub isOpen : entry (w .images) (var (f .lit)) ≡ noImage
+  pub input : InputIs w (f .onSecond) g c
+
+-- the frames lead to c: each literal is a gate's, has no image yet, and the next is one of that gate's inputs
+abbrev pub Stack : Net → Work → List Frame → ℕ → Type 0
+Stack N w [] c = Unit {0}
+Stack N w (f ∷ fs) c = FrameOk N w f c × Stack N w fs (f .lit)
+
+-- and so where the machine is: about to walk such an input, or one has its image
+abbrev pub AtOk : Net → Work → List Frame → At → Type 0
+AtOk N w fs (transfer c) = Stack N w fs c
+AtOk N w fs back = (c : ℕ) × Stack N w fs c × (entry (w .images) (var c) ≢ noImage)
+
+-- what holds of a machine all through a walk
+pub record Running (N : Net) (top : ℕ) (m : Machine) : Type 0 where
+  pub inv : Inv N top (m .work)
+  pub short : length (m .frames) ≤ stackRoom N
+  pub stack : AtOk N (m .work) (m .frames) (m .at)

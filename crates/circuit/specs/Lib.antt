@@ -8,6 +8,6 @@ pub mod Outcome
 pub mod Claims
 pub mod Tested
 pub mod Demands
-pub mod Invariant
 pub mod Machine
+pub mod Invariant
 pub mod Lending

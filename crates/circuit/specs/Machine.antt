@@ -1,19 +1,15 @@
--- The walk as a machine, a step at a time, over a stack of literals: what a loop does. That it comes to what `walk` comes to, that each step brings it
+-- The walk as a machine, a step at a time, with a stack of literals: what a loop does. That it comes to what `walk` comes to, that each step brings it
 -- nearer to its end, and what stays true on the way is proved in proofs/Machine.antt. Assumes nothing.
-use Prim.Native.Nat.{ℕ, _+_, _*_, _-_, _≤_}
-use mathlib.Core.Path.{_≡_}
-use mathlib.Core.Logic.{_≢_}
+use Prim.Native.Nat.{ℕ, _+_, _*_}
 use mathlib.Core.Bool.{Bool, true, false, cond}
 use mathlib.Core.Option.{Option, none, some}
 use mathlib.Core.List.{List, [], _∷_, _++_}
 use lib.Dec.{ltb}
 use lib.ListN.{length}
-use Rattle.circuit.specs.Graph.{In, Gate, outVar, gateFor}
+use Rattle.circuit.specs.Graph.{Gate, gateFor}
 use Rattle.lit.specs.Code.{var, literal}
 use Rattle.circuit.specs.declared.Refusal.the-variants.{Undefined, Deep}
-use Rattle.circuit.specs.Walk.{Net, Work, Out, reached, stopped, Look, mapped, refused, enter, look, settle, stackRoom, andThen, walk}
-use Rattle.circuit.specs.Map.{noImage, entry}
-use Rattle.circuit.specs.Invariant.{Inv}
+use Rattle.circuit.specs.Walk.{Net, Work, Out, reached, stopped, Look, mapped, refused, enter, look, settle, stackRoom}
 
 -- a literal that was entered and is not left: its first input is under way, or its second
 pub record Frame : Type 0 where
@@ -74,53 +70,3 @@ frameWord f = 2 * f .lit + cond (f .onSecond) 1 0
 abbrev pub stackWords : List Frame → List ℕ
 stackWords [] = []
 stackWords (f ∷ fs) = stackWords fs ++ (frameWord f ∷ [])
-
--- what is left to do for a literal once the input under way has its image
-abbrev pub restWith : Net → ℕ → List ℕ → ℕ → Work → Bool → Option Gate → Out
-restWith N room path c w onSecond none = stopped (Undefined (literal c))
-restWith N room path c w false (some g) = andThen (walk N room path w (g .second)) (λ w₂. reached (settle N w₂ g))
-restWith N room path c w true (some g) = reached (settle N w g)
-
--- what the whole comes to, where the walk under way comes to o
-unfoldable pub resume : Net → List Frame → Out → Out
-resume N [] o = o
-resume N (f ∷ fs) o =
-    resume N fs
-    (andThen o (λ w. restWith N (stackRoom N - length (f ∷ fs)) (pathOf (f ∷ fs)) (f .lit) w (f .onSecond) (gateFor (N .graph .gates) (var (f .lit)))))
-
--- and where the machine is
-abbrev pub comesToAt : Net → List Frame → At → Work → Out
-comesToAt N fs (transfer c) w = resume N fs (walk N (stackRoom N - length fs) (pathOf fs) w c)
-comesToAt N fs back w = resume N fs (reached w)
-
-abbrev pub comesTo : Net → Machine → Out
-comesTo N m = comesToAt N (m .frames) (m .at) (m .work)
-
--- the input of a gate that a frame has under way, and what is known of the other
-abbrev pub InputIs : Work → Bool → Gate → ℕ → Type 0
-InputIs w false g c = c ≡ g .first
-InputIs w true g c = (c ≡ g .second) × (entry (w .images) (var (g .first)) ≢ noImage)
-
--- a frame is a gate's that has no image yet, and one of its inputs is under way
-pub record FrameOk (N : Net) (w : Work) (f : Frame) (c : ℕ) : Type 0 where
-  pub g : Gate
-  pub isGate : In g (N .graph .gates)
-  pub names : outVar g ≡ var (f .lit)
-  pub isOpen : entry (w .images) (var (f .lit)) ≡ noImage
-  pub input : InputIs w (f .onSecond) g c
-
--- the frames lead to c: each literal is a gate's, has no image yet, and the next is one of that gate's inputs
-abbrev pub Stack : Net → Work → List Frame → ℕ → Type 0
-Stack N w [] c = Unit {0}
-Stack N w (f ∷ fs) c = FrameOk N w f c × Stack N w fs (f .lit)
-
--- and so where the machine is: about to walk such an input, or one has its image
-abbrev pub AtOk : Net → Work → List Frame → At → Type 0
-AtOk N w fs (transfer c) = Stack N w fs c
-AtOk N w fs back = (c : ℕ) × Stack N w fs c × (entry (w .images) (var c) ≢ noImage)
-
--- what holds of a machine all through a walk
-pub record Running (N : Net) (top : ℕ) (m : Machine) : Type 0 where
-  pub inv : Inv N top (m .work)
-  pub short : length (m .frames) ≤ stackRoom N
-  pub stack : AtOk N (m .work) (m .frames) (m .at)

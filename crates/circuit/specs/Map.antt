@@ -32,11 +32,3 @@ store m d t = set m (var d) (flipped t d)
 unfoldable pub codeOf : Image → ℕ
 codeOf Absent = 0
 codeOf (Code l) = l .0
-
--- a variable's entry
-abbrev pub entry : List ℕ → ℕ → ℕ
-entry m v = getD m v noImage
-
--- the code of a literal whose variable has an entry
-abbrev pub codeIn : List ℕ → ℕ → ℕ
-codeIn m c = flipped (entry m (var c)) c

@@ -3,7 +3,7 @@ use Prim.Native.Nat.{ℕ, _+_, _*_, _-_, _%_}
 use mathlib.Core.Bool.{Bool, true, false, cond, not, _||_}
 use mathlib.Core.List.{List, [], _∷_, _++_}
 use lib.Dec.{eqb, leb, ltb}
-use lib.ListN.{length, getD, drop, take, replicate}
+use lib.ListN.{length, drop, take, replicate}
 use Rattle.lit.specs.Code.{variable}
 use Rattle.circuit.specs.declared.Refusal.{Refusal}
 use Rattle.circuit.specs.declared.Refusal.the-variants.{TooBig, Misshapen, Short}
@@ -72,10 +72,6 @@ gatesOf [] = []
 gatesOf (o ∷ []) = []
 gatesOf (o ∷ a ∷ []) = []
 gatesOf (o ∷ a ∷ b ∷ rest) = record { output = o; first = a; second = b } ∷ gatesOf rest
-
--- gate k of a flat list, by its three words
-abbrev pub gateAt : List ℕ → ℕ → Gate
-gateAt ws k = record { output = getD ws (3 * k) 0; first = getD ws (3 * k + 1) 0; second = getD ws (3 * k + 2) 0 }
 
 -- the circuit that is lent
 abbrev pub circuitOf : Lent → Circuit

@@ -10,9 +10,10 @@ use Rattle.lit.specs.Code.{var, literal}
 use Rattle.lit.specs.declared.Lit.{Lit}
 use Rattle.circuit.specs.declared.Refusal.the-variants.{Again, StateAgain}
 use Rattle.circuit.specs.Graph.{Gate}
-use Rattle.circuit.specs.Outcome.{gatesOf, gateAt}
+use Rattle.circuit.specs.Outcome.{gatesOf}
 use Rattle.circuit.proofs.Words.{gates-length}
 use Rattle.circuit.proofs.Words as W
+use Rattle.circuit.specs.Claims.{gateAt}
 use Rattle.checks.specs.declared.Found.{Found}
 use Rattle.checks.specs.declared.Found.the-variants as F
 use Rattle.checks.specs.declared.Check.the-variants.{Passed, Failed}

@@ -1,4 +1,4 @@
--- How renumbering ends, over lists of any length. Assumes nothing.
+-- How renumbering ends, for lists of any length. Assumes nothing.
 use Prim.Native.Nat.{ℕ, _+_, _*_, _%_, _^_}
 use mathlib.Core.Path.{_≡_}
 use mathlib.Core.List.{List}

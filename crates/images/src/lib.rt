@@ -42,7 +42,7 @@ pub fn begin(map: &mut [u32], inputs: &[u32], states: &[u32])
     store_from(map, states, (2 + 2 * inputs.len()) as u32);
 }
 
-// The image of each literal of a list, over the front of another.
+// The image of each literal of a list, onto the front of another.
 pub fn images(map: &[u32], literals: &[u32], out: &mut [u32])
     ensures { λ _. ⌜ now (out .exit) ≡ onto (imagesIn (now (map .entry)) (now (literals .entry))) (now (out .entry)) ⌝ }
 {

@@ -10,10 +10,11 @@ use Rattle.lit.specs.Code.{var, literal, flipped, flippedBy}
 use Rattle.lit.specs.declared.Lit.{Lit}
 use Rattle.circuit.specs.declared.Image.{Image}
 use Rattle.circuit.specs.declared.Image.the-variants.{Absent, Code}
-use Rattle.circuit.specs.Map.{noImage, imageIn, imageOf, store, codeOf, entry}
+use Rattle.circuit.specs.Map.{noImage, imageIn, imageOf, store, codeOf}
 use Rattle.circuit.specs.Circuit.{storeFrom, start}
 use Rattle.circuit.specs.Ordered.{imagesIn}
 use Rattle.circuit.proofs.Map.{no-image, code-image}
+use Rattle.circuit.specs.Invariant.{entry}
 use Rattle.lent.proofs.Rows.{getD-any, onto-more, drop-at-one, drop-at-end}
 
 -- `i` is the code's own index

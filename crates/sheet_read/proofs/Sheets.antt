@@ -90,10 +90,10 @@ module _ (s h₀ cs₀ : List ℕ) where
   pub sheet-long : (r : Reading) → r ≡ Faulty 1 0 → sheetLimit < length s → Reads (readOf s) r h₀ h₀ cs₀ cs₀
   unfolding readOf sheetRead
   sheet-long r e long = (
-        rw (lt-ltb sheetLimit (length s) long) e,
-        rw (lt-ltb sheetLimit (length s) long) (sym (onto-none h₀)),
-        rw (lt-ltb sheetLimit (length s) long) (sym (onto-none cs₀)),
-      )
+    rw (lt-ltb sheetLimit (length s) long) e,
+    rw (lt-ltb sheetLimit (length s) long) (sym (onto-none h₀)),
+    rw (lt-ltb sheetLimit (length s) long) (sym (onto-none cs₀)),
+  )
 
   module _ (short : length s ≤ sheetLimit) (ten : length h₀ ≡ 10) (end : Ended) (h : List ℕ) (fills : Fills (numbersAt s 0 (length h₀)) end h₀ h) where
     abbrev run : Run
