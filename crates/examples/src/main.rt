@@ -4,6 +4,7 @@ mod circuits;
 mod fields;
 mod lists;
 mod lits;
+mod readings;
 mod say;
 mod show;
 mod tokens;
@@ -16,6 +17,7 @@ fn main() {
     let mut examples = io::large_buffer();
     let n = io::read_full(STDIN_FILENO, &mut examples);
     lines(&examples[..n]);
+    readings::run();
 }
 
 // Each line but its newline, in turn.
