@@ -5,6 +5,7 @@ mod fields;
 mod lists;
 mod lits;
 mod readings;
+mod records;
 mod say;
 mod show;
 mod tokens;
@@ -18,6 +19,7 @@ fn main() {
     let n = io::read_full(STDIN_FILENO, &mut examples);
     lines(&examples[..n]);
     readings::run();
+    records::run();
 }
 
 // Each line but its newline, in turn.

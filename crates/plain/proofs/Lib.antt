@@ -1,3 +1,4 @@
 pub mod Past
 pub mod Standing
 pub mod After
+pub mod Lending
