@@ -2,3 +2,4 @@ pub mod Past
 pub mod Standing
 pub mod After
 pub mod Lending
+pub mod Theorems
