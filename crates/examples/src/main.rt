@@ -1,5 +1,6 @@
 // Runs the documents' examples and prints a line for each. The literals' stand in `lits.rt`; the tokens' and the circuits' in the file `stdin`
-// beside `src`, a line each. What is printed is held to the file `stdout`, which was written from the documents and not by this program.
+// beside `src`, a line each; the token reader's and the gate records' in `readings.rt` and `records.rt`. What is printed is held to the file `stdout`,
+// which was written from the documents and not by this program.
 mod circuits;
 mod fields;
 mod lists;
