@@ -62,14 +62,14 @@ module _ (f : File) (used : ℕ) (lent : Lists) (counts : total (f .ordered .cou
 module _ {bytes : List ℕ} {lent : Lists} {r : Outcome} {used : ℕ} {codes : E.Lists} {x : E.Outcome} {trim hash fold : Bool} {l : Lent}
     (w : Way bytes lent r used codes x trim hash fold l) where
   -- the file on its way
-  pub record Lent-file : Type 0 where
-    pub file : File
-    pub read : readFile bytes (roomOf lent) ≡ got file used
-    pub known : Known bytes (roomOf lent) file
-    pub expands : x ≡ E.expansion (file .ordered .inputs) (length (file .ordered .nexts)) (pairWords (file .ordered .gates)) codes
-    pub lends-it : E.Lends (file .ordered) trim hash fold (x .lists) l
+  record Lent-file : Type 0 where
+    file : File
+    read : readFile bytes (roomOf lent) ≡ got file used
+    known : Known bytes (roomOf lent) file
+    expands : x ≡ E.expansion (file .ordered .inputs) (length (file .ordered .nexts)) (pairWords (file .ordered .gates)) codes
+    lends-it : E.Lends (file .ordered) trim hash fold (x .lists) l
 
-  pub lent-file : Lent-file
+  lent-file : Lent-file
   lent-file =
       let t = took bytes lent r used (w .reads) (w .taken) in
       let f : File = t .file in
