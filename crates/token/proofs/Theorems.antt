@@ -4,7 +4,7 @@ use mathlib.Core.Bool.{Bool, true, false}
 use mathlib.Core.List.{List, [], _∷_, _++_}
 use Prim.Native.Nat.{ℕ, _+_, _-_, _%_, _^_, _≤_, _<_}
 use lib.ListN.{length, getD, take, drop}
-use Rattle.token.specs.Format.{leading, isDigit, decimalValue, groupsValue, Grouped, digitsOf, shortest}
+use Rattle.token.specs.Format.{leading, isDigit, decimalValue, groupsValue, Grouped, digitsOf, shortest, Bytes}
 use Rattle.token.specs.Answer.{digitsAt, uintAt, goOnAt, binaryAt, deltaAt, within, assigned, headerFieldAt, litAt, symbolIndexAt, pairAt, tokenNumber, pairNumber}
 use Rattle.token.specs.declared.Reason.{Reason}
 use Rattle.token.specs.declared.Reason.the-variants.{NoDigit, LeadingZero, OverWidth, OverLimit, AssignsZero, AssignsOdd, Cut, OverReference}
