@@ -16,7 +16,7 @@ use Rattle.ordered.specs.declared.Expansion.the-variants.{Expanded}
 use Rattle.ordered.specs.Expand as E
 use Rattle.ordered.specs.Limited.{Keeps}
 use Rattle.ordered.proofs.Laid.{words-length}
-use Rattle.ordered.proofs.Expansions.{front}
+use Rattle.circuit.proofs.Outcome.{onto-take}
 use Rattle.ordered.proofs.Theorems as ordered
 use Rattle.binary.specs.declared.FileAnswer.the-variants.{Taken}
 use Rattle.binary.specs.File.{File, readFile}
@@ -42,7 +42,10 @@ took bytes lent r used e f = go (readFile bytes (roomOf lent)) refl e
     go (no why place) g h =
         absurd (let answers = ap (λ (o : Outcome). o .read .answer) h in let z : _≡_ {A = ℕ} 0 1 = cc in omega arith)
 
-module _ (f : File) (used : ℕ) (lent : Lists) (counts : total (f .ordered .counts) ≡ length (f .ordered .roots)) where
+module _ (bytes : List ℕ) (f : File) (used : ℕ) (lent : Lists) (known : Known bytes (roomOf lent) f) where
+  counts : total (f .ordered .counts) ≡ length (f .ordered .roots)
+  counts = known .limited .counts
+
   -- what is handed over is the circuit of the file
   lends : (x : E.Outcome) (trim hash fold : Bool) (l : Lent) → Hands (left (got f used) lent) x trim hash fold l
       → E.Lends (f .ordered) trim hash fold (x .lists) l
@@ -51,13 +54,14 @@ module _ (f : File) (used : ℕ) (lent : Lists) (counts : total (f .ordered .cou
         circuit = h .circuit;
         inputs = h .inputs;
         states = h .states;
-        nexts = h .nexts ∙ front (f .ordered .nexts) (lent .nexts) (length (f .ordered .nexts)) refl;
+        nexts = h .nexts ∙ onto-take (f .ordered .nexts) (lent .nexts) (length (f .ordered .nexts)) refl (known .nexts-fit);
         gates = h .gates;
-        roots = h .roots ∙ front (f .ordered .roots) (lent .roots) (total (f .ordered .counts)) (sym counts);
+        roots = h .roots ∙ onto-take (f .ordered .roots) (lent .roots) (total (f .ordered .counts)) (sym counts) (omega (arith, counts, known .roots-fit));
       }
 
   words : take (2 * length (f .ordered .gates)) (left (got f used) lent .lists .gates) ≡ pairWords (f .ordered .gates)
-  words = front (pairWords (f .ordered .gates)) (lent .gates) (2 * length (f .ordered .gates)) (words-length (f .ordered .gates))
+  words =
+      onto-take (pairWords (f .ordered .gates)) (lent .gates) (2 * length (f .ordered .gates)) (words-length (f .ordered .gates)) (known .gates-fit)
 
 module _ {bytes : List ℕ} {lent : Lists} {r : Outcome} {used : ℕ} {codes : E.Lists} {x : E.Outcome} {trim hash fold : Bool} {l : Lent}
     (w : Way bytes lent r used codes x trim hash fold l) where
@@ -81,9 +85,9 @@ module _ {bytes : List ℕ} {lent : Lists} {r : Outcome} {used : ℕ} {codes : E
         read = t .read;
         known = known;
         expands =
-            expands ∙ ap (λ (ws : List ℕ). E.expansion (f .ordered .inputs) (length (f .ordered .nexts)) ws codes) (words f used lent (known .limited .counts));
+            expands ∙ ap (λ (ws : List ℕ). E.expansion (f .ordered .inputs) (length (f .ordered .nexts)) ws codes) (words bytes f used lent known);
         lends-it =
-            lends f used lent (known .limited .counts) x trim hash fold l
+            lends bytes f used lent known x trim hash fold l
             (subst (λ (o : Outcome). Hands o x trim hash fold l) (t .holds) (w .hands));
       }
 

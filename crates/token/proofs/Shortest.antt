@@ -16,7 +16,6 @@ use Rattle.token.specs.declared.Token.the-variants.{Value}
 use Rattle.token.specs.declared.PairToken.the-variants.{Inputs}
 use Rattle.token.proofs.Groups.{eightAt, groups-lt}
 use Rattle.token.proofs.Deltas.{binary-read, binary-used, pair-of}
-use Rattle.token.specs.Claims.{Bytes}
 
 -- grouped bytes are read
 

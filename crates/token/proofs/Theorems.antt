@@ -31,7 +31,7 @@ use Rattle.token.proofs.symbol_index.Kinds as symbol-index-kinds
 use Rattle.token.proofs.symbol_index.Reads as symbol-index-contract
 use Rattle.token.proofs.pair.Kinds as pair-kinds
 use Rattle.token.proofs.pair.Reads as pair-contract
-use Rattle.token.specs.Claims.{Bytes, Used, PairUsed, DecimalUsed, NamesPlace, RefusedDelta, Everyone}
+use Rattle.token.specs.Claims.{Used, PairUsed, DecimalUsed, NamesPlace, RefusedDelta, Everyone}
 
 -- 1. Each contract determines its answer: of any two answers that it allows for the same bytes, place and numbers, each is the other.
 
