@@ -1,5 +1,6 @@
 -- The checks, the records laid flat, and the rest come to the outcome with records. The checks on lengths and on the records say what those on the
--- records laid flat say; where they pass, nothing below refusal 5 can be answered; and the words that the records took are the first of the sixth list. Assumes nothing.
+-- records laid flat say; where they pass, nothing below refusal 5 can be answered; and the words that the records took are the first of the
+-- sixth list. Assumes nothing.
 use Prim.Native.Nat.{ℕ, _+_, _*_, _/_, _%_, _≤_}
 use mathlib.Core.Path.{_≡_, refl, sym, ap, ap₂, _∙_, subst⁻¹}
 use mathlib.Core.Logic.{inl}

@@ -51,7 +51,8 @@ module _ (l : Lent) (w : Work) (e : conclusion l ≡ reached w) where
   -- a cell of the map is the walk's
   cell : (v : ℕ) → v ≤ C .top → getD (outcome l .map) v 0 ≡ entry (w .images) v
   cell v h =
-      ap (λ (o : Outcome). getD (o .map) v 0) (success-of l w e) ∙ onto-at (w .images) (l .map) v 0 (omega (arith, inv .size)) (omega (arith, inv .size, room .map))
+      ap (λ (o : Outcome). getD (o .map) v 0) (success-of l w e)
+      ∙ onto-at (w .images) (l .map) v 0 (omega (arith, inv .size)) (omega (arith, inv .size, room .map))
       ∙ getD-any (w .images) v 0 noImage (omega (arith, inv .size))
 
   mapped-low : (v : ℕ) → entry (w .images) v ≢ noImage → v ≤ C .top

@@ -76,7 +76,9 @@ module _ (l : Lent) (w : Work) (e : conclusion l ≡ reached w) where
 
       go : (b : Bool) → AtMost (suc (C .top)) (var c) b → cond b Absent (imageIn (outcome l .map) c) ≡ imageIn (w .images) c
       go true (atMost h) = sym (no-image (w .images) c (List·getD-eq-default (w .images) noImage (omega (arith, inv .size))))
-      go false (above h) = ap (λ (m : List ℕ). imageIn m c) map-is ∙ same-entry (w .images) (l .map) c (omega (arith, inv .size)) (omega (arith, inv .size, room .map))
+      go false (above h) =
+          ap (λ (m : List ℕ). imageIn m c) map-is
+          ∙ same-entry (w .images) (l .map) c (omega (arith, inv .size)) (omega (arith, inv .size, room .map))
         where
           same-entry : (m lent : List ℕ) (d : ℕ) → var d < length m → length m ≤ length lent → imageIn (onto m lent) d ≡ imageIn m d
           same-entry m lent d k r = image-entry (onto m lent) m d (onto-at m lent (var d) noImage k r)
@@ -170,7 +172,8 @@ module _ (l : Lent) (w : Work) (e : conclusion l ≡ reached w) where
   unfolding walked orderedOf
   next-image j h =
       subst⁻¹ (λ (o : Outcome). HasImage l (outcome l) (getD (l .nexts) j 0) (literal (getD (o .nextImages) j 0))) (success-of l w e)
-      (image-at (l .nexts) (l .nextImages) (omega (arith, room .nexts, latches)) (λ c k. In-right c (cond (C .trim) [] (gateOutputs C)) _ (In-left c (C .nexts) (C .roots) k)) j h)
+      (image-at (l .nexts) (l .nextImages) (omega (arith, room .nexts, latches))
+      (λ c k. In-right c (cond (C .trim) [] (gateOutputs C)) _ (In-left c (C .nexts) (C .roots) k)) j h)
 
   pub root-image : (j : ℕ) → j < length (l .roots) → HasImage l (outcome l) (getD (l .roots) j 0) (literal (getD (outcome l .rootImages) j 0))
   unfolding walked orderedOf

@@ -1,6 +1,6 @@
 -- Each contract is an equation, so it determines its answer, and of `renumber_two` each lent list too: any two outcomes that it allows for the same arguments
 -- are equal. Assumes nothing.
-use mathlib.Core.Path.{_≡_, sym, ap, _∙_}
+use mathlib.Core.Path.{sym, ap, _∙_}
 use mathlib.Core.List.{List}
 use Prim.Native.Nat.{ℕ}
 use denote.Ref.{now}

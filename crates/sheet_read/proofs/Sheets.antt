@@ -111,8 +111,11 @@ module _ (s h₀ cs₀ : List ℕ) where
 
     pub sheet-broken : (r : Reading) (why : Reason) (place : ℕ) → r ≡ Faulty (reasonNumber why) place → end ≡ Broken why place → Reads (readOf s) r h₀ h cs₀ cs₀
     sheet-broken r why place e k =
-        let x : readOf s ≡ readAs r (run .numbers) [] = read-as ∙ rw (k, e) in
-        (sym (ap (λ (y : Read). y .reading) x), header-is ∙ ap (λ (y : Read). onto (y .header) h₀) (sym x), sym (onto-none cs₀) ∙ ap (λ (y : Read). onto (y .codes) cs₀) (sym x))
+        let x : readOf s ≡ readAs r (run .numbers) [] = read-as ∙ rw (k, e) in (
+          sym (ap (λ (y : Read). y .reading) x),
+          header-is ∙ ap (λ (y : Read). onto (y .header) h₀) (sym x),
+          sym (onto-none cs₀) ∙ ap (λ (y : Read). onto (y .codes) cs₀) (sym x),
+        )
 
     pub sheet-lists : (r : Reading) (place : ℕ) (cs : List ℕ) → end ≡ After place → ReadsCodes (headerRead s h (After place)) r cs₀ cs
         → Reads (readOf s) r h₀ h cs₀ cs

@@ -271,13 +271,54 @@ module _ {M : Type 1} (𝓤 : URA M) (H : Heap 𝓤) (A : Atoms 𝓤) (W : Given
     tt,
   )
 
-  -- what it says of its answer and of the last lists
-  abbrev Said : (ν l : ℕ) (γ : GName) → Answer → Lasts library.ended (library-κs ν) (library-args ν l γ) → Type 0
-  Said ν l γ r us =
-      withFlat (outcomeOf r (us .1 .1 .1 .1 .1 .1 .0) (us .1 .1 .1 .1 .1 .1 .1 .0) (us .1 .1 .1 .1 .1 .1 .1 .1 .0) (us .1 .1 .1 .1 .1 .1 .1 .1 .1 .0)
-      (us .1 .1 .1 .1 .1 .1 .1 .1 .1 .1 .0)) (us .1 .1 .1 .1 .1 .1 .1 .1 .1 .1 .1 .0)
-      ≡ outcomeOfRecords (lentOf circuit (inputs .now) (states .now) (nexts .now) (flatOf gates) (roots .now) (map .now) (next-images .now) (root-images .now)
-      (gates-out .now) (scratch .now)) (flat .now)
+  -- where it answers r, at the machine value w, and leaves the lists us
+  module _ (ν l : ℕ) (γ : GName) (r : Answer) (w : Val) (us : Lasts library.ended (library-κs ν) (library-args ν l γ)) where
+    abbrev last-map : List ℕ
+    last-map = us .1 .1 .1 .1 .1 .1 .0
+
+    abbrev last-next-images : List ℕ
+    last-next-images = us .1 .1 .1 .1 .1 .1 .1 .0
+
+    abbrev last-root-images : List ℕ
+    last-root-images = us .1 .1 .1 .1 .1 .1 .1 .1 .0
+
+    abbrev last-gates-out : List ℕ
+    last-gates-out = us .1 .1 .1 .1 .1 .1 .1 .1 .1 .0
+
+    abbrev last-scratch : List ℕ
+    last-scratch = us .1 .1 .1 .1 .1 .1 .1 .1 .1 .1 .0
+
+    abbrev last-flat : List ℕ
+    last-flat = us .1 .1 .1 .1 .1 .1 .1 .1 .1 .1 .1 .0
+
+    abbrev Said : Type 0
+    Said =
+        withFlat (outcomeOf r last-map last-next-images last-root-images last-gates-out last-scratch) last-flat ≡ outcomeOfRecords
+        (lentOf circuit (inputs .now) (states .now) (nexts .now) (flatOf gates) (roots .now) (map .now) (next-images .now) (root-images .now) (gates-out .now)
+        (scratch .now)) (flat .now)
+
+    -- what is had at the end: the answer, what the lent lists are at last, and the tokens
+    abbrev Left : List (Item 𝓤)
+    Left =
+        ‵ (An.the-row .own r (w ∷ [])) ∷ ‵ (finally u32 (map .name) last-map) ∷ ‵ (finally u32 (next-images .name) last-next-images) ∷ ‵
+        (finally u32 (root-images .name) last-root-images) ∷ ‵ (finally u32 (gates-out .name) last-gates-out) ∷ ‵ (finally u32 (scratch .name) last-scratch) ∷
+        ‵ (finally u32 (flat .name) last-flat) ∷ ‵ (flft κ₀ q₀) ∷ ‵ (flft κ₁ q₁) ∷ ‵ (flft κ₂ q₂) ∷ ‵ (flft κ₃ q₃) ∷ ‵ (flft κ₄ q₄) ∷ ‵ (flft κ₅ q₅) ∷ ‵
+        (flft κ₆ q₆) ∷ ‵ (flft κ₇ q₇) ∷ ‵ (flft κ₈ q₈) ∷ ‵ (flft κ₉ q₉) ∷ []
+
+    exits : Said → length last-map ≡ length (map .now) → length last-next-images ≡ length (next-images .now) → length last-root-images ≡ length
+        (root-images .now) → length last-gates-out ≡ length (gates-out .now) → length last-scratch ≡ length (scratch .now) → length last-flat ≡ length
+        (flat .now)
+        → ent 𝓤 (⋆ 𝓤 H A Left) (Post w)
+    exits says-so long₀ long₁ long₂ long₃ long₄ long₅ =
+        qed W Left ∵
+        suffices ! _ (ends-at 𝓤 H A entry.ended stayed (entry.clauses 𝓤 H A mem run) W ((κs, qs, bounds, a, at), tt) w r
+        (tt, (tt, (tt, (tt, (tt, (tt, (last-map, (last-next-images, (last-root-images, (last-gates-out, (last-scratch, (last-flat, tt))))))))))))
+        (tt, (tt, (tt, (tt, (tt, (tt, (long₀, (long₁, (long₂, (long₃, (long₄, (long₅, tt))))))))))))) $ says ! says-so $
+        nothing ! $ move ! (17 ∷ 0 ∷ []) $ join ! $ move ! (16 ∷ 0 ∷ []) $ join ! $ move ! (15 ∷ 0 ∷ []) $ join ! $ move ! (14 ∷ 0 ∷ []) $ join ! $
+        move ! (13 ∷ 0 ∷ []) $ join ! $ move ! (12 ∷ 0 ∷ []) $ join ! $ move ! (11 ∷ 0 ∷ []) $ join ! $ move ! (10 ∷ 0 ∷ []) $ join ! $ move ! (9 ∷ 0 ∷ []) $
+        join ! $ move ! (8 ∷ 0 ∷ []) $ join ! $ frame ! $ nothing ! $ move ! (7 ∷ 0 ∷ []) $ fjoin ! $ move ! (6 ∷ 0 ∷ []) $ fjoin ! $ move ! (5 ∷ 0 ∷ []) $
+        fjoin ! $ move ! (4 ∷ 0 ∷ []) $ fjoin ! $ move ! (3 ∷ 0 ∷ []) $ fjoin ! $ move ! (2 ∷ 0 ∷ []) $ fjoin ! $ nothing ! $ fjoin ! $ nothing ! $ fjoin ! $
+        nothing ! $ fjoin ! $ nothing ! $ fjoin ! $ nothing ! $ fjoin ! $ nothing ! $ fjoin ! $ frame ! $ done !
 
   module _ (are : Are (typesAt (entry.signature .params) κs) (Ises (typesAt (entry.signature .params) κs)) a at) where
     circuit-is : Is Cr.the-row circuit (Cr′.lowered circuit ∷ [])
@@ -309,59 +350,6 @@ module _ {M : Type 1} (𝓤 : URA M) (H : Heap 𝓤) (A : Atoms 𝓤) (W : Given
 
     room-flat : Room u32 (length (flat .now))
     room-flat = are .1 .1 .1 .1 .1 .1 .1 .1 .1 .1 .1 .0 .0 .1
-
-    -- what is had at the end: the answer, what the lent lists are at last, and the tokens
-    abbrev Left : (ν l : ℕ) (γ : GName) → Answer → Val → Lasts library.ended (library-κs ν) (library-args ν l γ) → List (Item 𝓤)
-    Left ν l γ r w us = ‵ (An.the-row .own r (w ∷ [])) ∷ ‵ (finally u32 (map .name) (us .1 .1 .1 .1 .1 .1 .0)) ∷ ‵ (finally u32 (next-images .name)
-        (us .1 .1 .1 .1 .1 .1 .1 .0)) ∷ ‵ (finally u32 (root-images .name) (us .1 .1 .1 .1 .1 .1 .1 .1 .0)) ∷ ‵ (finally u32 (gates-out .name)
-        (us .1 .1 .1 .1 .1 .1 .1 .1 .1 .0)) ∷ ‵ (finally u32 (scratch .name) (us .1 .1 .1 .1 .1 .1 .1 .1 .1 .1 .0)) ∷ ‵
-        (finally u32 (flat .name) (us .1 .1 .1 .1 .1 .1 .1 .1 .1 .1 .1 .0)) ∷ ‵ (flft κ₀ q₀) ∷ ‵ (flft κ₁ q₁) ∷ ‵ (flft κ₂ q₂) ∷ ‵ (flft κ₃ q₃) ∷ ‵
-        (flft κ₄ q₄) ∷ ‵ (flft κ₅ q₅) ∷ ‵ (flft κ₆ q₆) ∷ ‵ (flft κ₇ q₇) ∷ ‵ (flft κ₈ q₈) ∷ ‵ (flft κ₉ q₉) ∷ []
-
-    exits : (ν l : ℕ) (γ : GName) (r : Answer) (w : Val) (us : Lasts library.ended (library-κs ν) (library-args ν l γ)) → Said ν l γ r us
-        → (length (us .1 .1 .1 .1 .1 .1 .0) ≡ length (map .now))
-        → (length (us .1 .1 .1 .1 .1 .1 .1 .0) ≡ length (next-images .now))
-        → (length (us .1 .1 .1 .1 .1 .1 .1 .1 .0) ≡ length (root-images .now))
-        → (length (us .1 .1 .1 .1 .1 .1 .1 .1 .1 .0) ≡ length (gates-out .now))
-        → (length (us .1 .1 .1 .1 .1 .1 .1 .1 .1 .1 .0) ≡ length (scratch .now))
-        → (length (us .1 .1 .1 .1 .1 .1 .1 .1 .1 .1 .1 .0) ≡ length (flat .now))
-        → ent 𝓤 (⋆ 𝓤 H A (Left ν l γ r w us)) (Post w)
-    exits ν l γ r w us says-so long₀ long₁ long₂ long₃ long₄ long₅ =
-        qed W (Left ν l γ r w us) ∵
-        suffices ! _ (ends-at 𝓤 H A entry.ended stayed (entry.clauses 𝓤 H A mem run) W ((κs, qs, bounds, a, at), tt) w r (
-          tt,
-          (
-            tt,
-            (
-              tt,
-              (
-                tt,
-                (
-                  tt,
-                  (
-                    tt,
-                    (
-                      us .1 .1 .1 .1 .1 .1 .0,
-                      (
-                        us .1 .1 .1 .1 .1 .1 .1 .0,
-                        (
-                          us .1 .1 .1 .1 .1 .1 .1 .1 .0,
-                          (us .1 .1 .1 .1 .1 .1 .1 .1 .1 .0, (us .1 .1 .1 .1 .1 .1 .1 .1 .1 .1 .0, (us .1 .1 .1 .1 .1 .1 .1 .1 .1 .1 .1 .0, tt))),
-                        ),
-                      ),
-                    ),
-                  ),
-                ),
-              ),
-            ),
-          ),
-        )
-        (tt, (tt, (tt, (tt, (tt, (tt, (long₀, (long₁, (long₂, (long₃, (long₄, (long₅, tt))))))))))))) $ says ! says-so $
-        nothing ! $ move ! (17 ∷ 0 ∷ []) $ join ! $ move ! (16 ∷ 0 ∷ []) $ join ! $ move ! (15 ∷ 0 ∷ []) $ join ! $ move ! (14 ∷ 0 ∷ []) $ join ! $
-        move ! (13 ∷ 0 ∷ []) $ join ! $ move ! (12 ∷ 0 ∷ []) $ join ! $ move ! (11 ∷ 0 ∷ []) $ join ! $ move ! (10 ∷ 0 ∷ []) $ join ! $ move ! (9 ∷ 0 ∷ []) $
-        join ! $ move ! (8 ∷ 0 ∷ []) $ join ! $ frame ! $ nothing ! $ move ! (7 ∷ 0 ∷ []) $ fjoin ! $ move ! (6 ∷ 0 ∷ []) $ fjoin ! $ move ! (5 ∷ 0 ∷ []) $
-        fjoin ! $ move ! (4 ∷ 0 ∷ []) $ fjoin ! $ move ! (3 ∷ 0 ∷ []) $ fjoin ! $ move ! (2 ∷ 0 ∷ []) $ fjoin ! $ nothing ! $ fjoin ! $ nothing ! $ fjoin ! $
-        nothing ! $ fjoin ! $ nothing ! $ fjoin ! $ nothing ! $ fjoin ! $ nothing ! $ fjoin ! $ frame ! $ done !
 
     module _ (𝓣 : Tables 𝓤 H) (known : Triple 𝓤 (𝓣 .C library-def.name) Library) where
       walk : ent 𝓤 (onEntry 𝓤 H A entry.signature κs qs a at)
@@ -459,8 +447,8 @@ module _ {M : Type 1} (𝓤 : URA M) (H : Heap 𝓤) (A : Atoms 𝓤) (W : Given
           (flft κ₄ q₄) ⊛ ‵ (flft κ₅ q₅) ⊛ ‵ (flft κ₆ q₆) ⊛ ‵ (flft κ₇ q₇) ⊛ ‵ (flft κ₈ q₈) ⊛ ‵ (flft κ₉ q₉) ⊛ ‵ ftrue) ⊛ ‵ (An.the-row .own r (w ∷ []))) ⊛ raw
           (ensured 𝓤 H A library.ended (library.clauses 𝓤 H A mem run) (library-κs ν) (library-args ν l₁₃ γ) tt r)))) (id⊢ 𝓤 _) $ await ! tt $ pick ! (λ r.
           split ! $ move ! (1 ∷ []) $ use1 W (some (λ (us : Lasts library.ended (library-κs ν) (library-args ν l₁₃ γ)). ‵ (lasts library.ended (library-κs ν)
-          (library-args ν l₁₃ γ) us) ⊛ raw (fact 𝓤 (Said ν l₁₃ γ r us)))) (id⊢ 𝓤 _) $ pick ! (λ us.
-          split ! $ move ! (1 ∷ []) $ heard ! (Said ν l₁₃ γ r us) (λ says-so.
+          (library-args ν l₁₃ γ) us) ⊛ raw (fact 𝓤 (Said ν l₁₃ γ r w us)))) (id⊢ 𝓤 _) $ pick ! (λ us.
+          split ! $ move ! (1 ∷ []) $ heard ! (Said ν l₁₃ γ r w us) (λ says-so.
           -- [what the lists are at last; the tokens and the answer; what is lent; _27; …; room for _0; …]
           fsplit ! $ drop ! $ fsplit ! $ drop ! $ fsplit ! $ drop ! $ fsplit ! $ drop ! $ fsplit ! $ drop ! $ fsplit ! $ drop ! $ fsplit ! $ fsplit ! $
           move ! (1 ∷ []) $ feqL ! (λ long₀. move ! (1 ∷ []) $ fsplit ! $ fsplit ! $ move ! (1 ∷ []) $ feqL ! (λ long₁. move ! (1 ∷ []) $ fsplit ! $
