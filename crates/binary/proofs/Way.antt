@@ -1,5 +1,5 @@
 -- The whole way: what is read is an ordered circuit within the limits, what is lent of it is that circuit, and renumbering keeps values. Assumes nothing.
-use Prim.Native.Nat.{ℕ, _+_, _*_}
+use Prim.Native.Nat.{ℕ, _*_}
 use mathlib.Core.Path.{_≡_, refl, sym, ap, _∙_, subst}
 use mathlib.Core.Bool.{Bool}
 use mathlib.Core.List.{List}
@@ -8,11 +8,9 @@ use lib.ListN.{length, take}
 use Rattle.circuit.specs.declared.Summary.{Summary}
 use Rattle.circuit.specs.declared.Answer.the-variants.{Renumbered}
 use Rattle.circuit.specs.Outcome as C
-use Rattle.circuit.specs.Outcome.{Lent, circuitOf, total, pairWords, onto, held}
+use Rattle.circuit.specs.Outcome.{Lent, circuitOf, total, pairWords, held}
 use Rattle.circuit.specs.Claims.{Roomy, Passes}
-use Rattle.lines.specs.declared.Fault.{Fault}
 use Rattle.lines.specs.Reading.{Read, got, no}
-use Rattle.ordered.specs.declared.Expansion.the-variants.{Expanded}
 use Rattle.ordered.specs.Expand as E
 use Rattle.ordered.specs.Limited.{Keeps}
 use Rattle.ordered.proofs.Laid.{words-length}

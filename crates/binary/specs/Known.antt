@@ -1,4 +1,4 @@
--- What holds of every file that is read. Assumes nothing.
+-- What holds of every file that is read; and lists that no file is too large for. Assumes nothing.
 use Prim.Native.Nat.{ℕ, _*_, _≤_}
 use mathlib.Core.Path.{_≡_}
 use mathlib.Core.List.{List, [], _∷_}
@@ -23,3 +23,10 @@ pub record Known (s : List ℕ) (room : Room) (f : File) : Type 0 where
   -- no more justice sets than the limit, and their sizes sum to the fifth count
   pub sets : length (f .sizes) ≤ limit
   pub sizes : (o b c j k : ℕ) → f .ordered .counts ≡ o ∷ b ∷ c ∷ j ∷ k ∷ [] → total (f .sizes) ≡ k
+
+-- lists as long as the limits: a cell for each variable or root that there may be, two for a gate
+pub record Ample (room : Room) : Type 0 where
+  pub nexts : limit ≤ room .nexts
+  pub gates : 2 * limit ≤ room .gates
+  pub sizes : limit ≤ room .sizes
+  pub roots : limit ≤ room .roots

@@ -1,7 +1,5 @@
 -- Any two outcomes that a contract of this crate allows for the same arguments are equal: the answer, and each lent word. Assumes nothing.
-use Prim.Native.Nat.{ℕ}
-use mathlib.Core.Path.{_≡_, sym, ap, _∙_}
-use mathlib.Core.List.{List}
+use mathlib.Core.Path.{sym, ap, _∙_}
 use denote.Ref.{now}
 use Rattle.promise.specs.Determined.{Determines, DeterminesCells}
 use Rattle.lines.specs.Sections.{Roots, rootsOf}

@@ -1,8 +1,8 @@
 -- An ordered circuit within the limits passes checks 1, 2 and 4 as it is given, and where renumbering of it succeeds its values are kept: its codes are
 -- counted upwards, and no input is over its gate's code, which is at most 2V. Assumes nothing.
-use Prim.Native.Nat.{ℕ, zero, suc, _+_, _*_, _%_, _≤_, _<_}
+use Prim.Native.Nat.{ℕ, zero, suc, _+_, _*_, _≤_, _<_}
 use mathlib.Core.Path.{_≡_, refl, sym, ap, _∙_, subst, subst⁻¹}
-use mathlib.Core.Logic.{_⊎_, inl, inr}
+use mathlib.Core.Logic.{inl, inr}
 use mathlib.Core.Bool.{Bool}
 use mathlib.Core.List.{List, [], _∷_}
 use native.Mathlib.Omega.{arith}
@@ -22,7 +22,7 @@ use Rattle.circuit.proofs.Demands.{demands}
 use Rattle.circuit.proofs.Ordered.{countFrom-length}
 use Rattle.ordered.specs.declared.Expansion.the-variants.{Expanded}
 use Rattle.ordered.specs.Expand.{Lists, Outcome, expansion, Lends}
-use Rattle.ordered.specs.Limited.{variablesOf, Falling, Limited, Keeps}
+use Rattle.ordered.specs.Limited.{Limited, Keeps}
 use Rattle.ordered.proofs.Laid.{laid-length, words-length}
 use Rattle.ordered.proofs.Expansions.{all-filled, expanded-words, expanded-given}
 

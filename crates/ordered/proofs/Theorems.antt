@@ -1,9 +1,8 @@
 -- What the contracts of this crate promise: any two outcomes that they allow for the same arguments are equal, the answer and each lent word; and what
 -- `expand` leaves of an ordered circuit is, lent to renumbering, that circuit. Assumes nothing.
-use Prim.Native.Nat.{ℕ, _+_, _*_, _≤_}
+use Prim.Native.Nat.{_+_, _*_, _≤_}
 use mathlib.Core.Path.{_≡_, sym, ap, _∙_}
 use mathlib.Core.Bool.{Bool}
-use mathlib.Core.List.{List}
 use lib.ListN.{length}
 use denote.Ref.{now}
 use Rattle.promise.specs.Determined.{Determines, DeterminesCells}

@@ -1,17 +1,12 @@
 -- `lines::latches_into` meets its contract: a turn of the loop stores one line more (`Storing`). Assumes nothing.
-use Prim.Native.Nat.{_+_, _-_}
+use Prim.Native.Nat.{_-_}
 use Rattle.lines.proofs.Answers.{is-got, not-no}
 use Rattle.lines.proofs.Rows.{Storing, storing-none, storing-more, storing-broken, storing-all, storing-keeps}
-use Rattle.lines.proofs.latch.Reads as latch-reads
-use Rattle.lines.proofs.latches_into.Lts as lts
-use Rattle.lines.proofs.latches_into.Reads as reads
 use Rattle.lines.proofs.latches_into.Statement.{statement}
 use Rattle.lines.proofs.latches_into.Tie as tie
-use Rattle.lent.proofs.words.store.Reads as store-reads
 use Rattle.lines.specs.Lines.{latchAt, latchesAt}
 use borrow.Author.Needs.{needs}
-use denote.Ref.{now}
-use mathlib.Core.Path.{refl, sym, ap, _∙_}
+use mathlib.Core.Path.{sym, _∙_}
 use native.Mathlib.Omega.{arith}
 
 abbrev Inv-loop : tie.InvT-loop
