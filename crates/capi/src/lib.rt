@@ -3,6 +3,7 @@ mod renumber;
 
 ghost use mathlib.Core.Path.{_≡_};
 ghost use Rattle.delta_bytes.specs.Delta.{deltaNumber, deltaBytes};
+ghost use Rattle.file_words.specs.Read.{fileSeen, readSeen};
 ghost use Rattle.capi.specs.Renumber.{seen, recordOf, renumberSeen};
 
 // One delta at a place: 0, with the value, low byte first, in the first eight lent bytes and the count of bytes used in the ninth; or a
@@ -75,4 +76,33 @@ pub extern "C" fn imdagluz_renumber(
         scratch,
     );
     renumber::put_answer(said, answer)
+}
+
+// Reads a binary AIGER file as `binary::read` does: 0, or a refusal's number. The answer goes to the first eleven words of `answer`: the bytes used, or the
+// place of the refusal; then, 0 for a refusal, M = I + L + A, I, L, A, the five root counts in walk order, the number of justice sets. Fewer than eleven
+// words is refusal 3, tested first, and writes nothing; every other refusal leaves each cell of the four lists 0.
+#[no_mangle]
+pub extern "C" fn imdagluz_read_aig(
+    bytes: &[u8],
+    nexts: &mut [u32],
+    gates: &mut [u32],
+    sizes: &mut [u32],
+    roots: &mut [u32],
+    answer: &mut [u64],
+) -> u32
+    ensures { λ r. ⌜ fileSeen (record {
+      number = r;
+      nexts = now (nexts .exit);
+      gates = now (gates .exit);
+      sizes = now (sizes .exit);
+      roots = now (roots .exit);
+      words = now (answer .exit);
+    }) ≡ readSeen (now (bytes .entry)) (record {
+      nexts = now (nexts .entry);
+      gates = now (gates .entry);
+      sizes = now (sizes .entry);
+      roots = now (roots .entry);
+    }) (now (answer .entry)) ⌝ }
+{
+    file_words::read(bytes, nexts, gates, sizes, roots, answer)
 }
