@@ -1,6 +1,6 @@
-// Words as numbers, and filling lent words.
+// Words as numbers, and storing and filling lent words.
 ghost use mathlib.Core.Path.{_≡_};
-ghost use lib.ListN.{length, replicate};
+ghost use lib.ListN.{length, replicate, set};
 ghost use Rattle.lit.specs.Code.{var};
 ghost use Rattle.lent.specs.Over.{over};
 use lit::Lit;
@@ -17,6 +17,15 @@ pub fn place_of(lit: Lit) -> usize
     ensures { λ r. ⌜ r ≡ var (lit .0) ⌝ }
 {
     wide(lit.var().index())
+}
+
+// One word in a cell, if the cell is there.
+pub fn store(list: &mut [u32], at: usize, word: u32)
+    ensures { λ _. ⌜ now (list .exit) ≡ set (now (list .entry)) at word ⌝ }
+{
+    if at < list.len() {
+        list[at] = word;
+    }
 }
 
 // Puts the value into the first `count` words, as far as there are so many.
