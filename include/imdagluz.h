@@ -29,8 +29,8 @@ extern "C" {
 /* The largest V, I, L, G and R, and so the most words that a list of codes has: lists of this length, gates of pairs twice it, hold every circuit. */
 #define IMDAGLUZ_LIST 1048575
 
-/* Refusal numbers. 0 is success. imdagluz_delta gives 3 and 15 to 17, imdagluz_renumber 1 to 8, imdagluz_read_aig 1, 3, 10 to 12 and 15 to 19. No
- * function here gives 13 or 14, which are for a literal that a text file assigns. */
+/* Refusal numbers. 0 is success. imdagluz_delta gives 3 and 15 to 17, imdagluz_renumber 1 to 8, imdagluz_read_aig 1, 3, 10 to 12 and 15 to 19,
+ * imdagluz_expand 1 to 3. No function here gives 13 or 14, which are for a literal that a text file assigns. */
 enum {
     IMDAGLUZ_TOO_BIG = 1,         /* V, I, L, G or R is over 1,048,575 */
     IMDAGLUZ_MISSHAPEN = 2,       /* counts, flags and lengths do not fit together */
@@ -210,6 +210,31 @@ uint32_t imdagluz_read_aig(const uint8_t *bytes, size_t length,
                            uint32_t *sizes, size_t sizes_length,
                            uint32_t *roots, size_t roots_length,
                            uint64_t *answer, size_t answer_length);
+
+/* Makes of an ordered circuit, as imdagluz_read_aig leaves it, the lists of inputs, latch states and gates that imdagluz_renumber takes.
+ *
+ * Only read:
+ *   inputs, latches                  I and L
+ *   gates, gates_length              2G codes, of each gate its two inputs. They are copied as they are: a code over 2V+1 is imdagluz_renumber's refusal 4
+ * Written; a list may be longer than is asked here, and the words past those asked are never written:
+ *   input_codes, input_codes_length  I words
+ *   state_codes, state_codes_length  L words
+ *   triples, triples_length          3G words
+ *
+ * Answers 0 on success. Then the lists hold
+ *   input_codes  2, 4, .., 2I
+ *   state_codes  2(I+1), 2(I+2), .., 2(I+L)
+ *   triples      of gate k, counted from 0, its output 2(I+L+1+k) and its two inputs in their order.
+ * With I+L+G for the largest variable, and next states, root counts and roots as imdagluz_read_aig gave them, they are a circuit for imdagluz_renumber.
+ *
+ * Or answers a refusal, the first of these that applies, and writes nothing:
+ *   1  I, L, G or I+L+G is over 1,048,575, G being gates_length/2 rounded down
+ *   2  gates_length is odd
+ *   3  input_codes is shorter than I, state_codes than L, or triples than 3G. */
+uint32_t imdagluz_expand(uint32_t inputs, uint32_t latches, const uint32_t *gates, size_t gates_length,
+                         uint32_t *input_codes, size_t input_codes_length,
+                         uint32_t *state_codes, size_t state_codes_length,
+                         uint32_t *triples, size_t triples_length);
 
 #ifdef __cplusplus
 }

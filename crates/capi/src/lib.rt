@@ -5,6 +5,7 @@ ghost use mathlib.Core.Path.{_≡_};
 ghost use Rattle.delta_bytes.specs.Delta.{deltaNumber, deltaBytes};
 ghost use Rattle.file_words.specs.Read.{fileSeen, readSeen};
 ghost use Rattle.capi.specs.Renumber.{seen, recordOf, renumberSeen};
+ghost use Rattle.capi.specs.Expand.{listsSeen, expandSeen};
 
 // One delta at a place: 0, with the value, low byte first, in the first eight lent bytes and the count of bytes used in the ninth; or a
 // refusal's number, and the lent bytes as they were. Fewer than nine lent bytes is refusal 3, tested first.
@@ -105,4 +106,37 @@ pub extern "C" fn imdagluz_read_aig(
     }) (now (answer .entry)) ⌝ }
 {
     file_words::read(bytes, nexts, gates, sizes, roots, answer)
+}
+
+// Of an ordered circuit with I inputs, L latches and gates two words each the lists that renumbering takes, as `ordered::expand` makes them: 0, or a refusal's
+// number, and then nothing is written.
+#[no_mangle]
+pub extern "C" fn imdagluz_expand(
+    inputs: u32,
+    latches: u32,
+    gates: &[u32],
+    input_codes: &mut [u32],
+    state_codes: &mut [u32],
+    triples: &mut [u32],
+) -> u32
+    ensures { λ r. ⌜ listsSeen (record {
+      number = r;
+      inputCodes = now («input_codes» .exit);
+      stateCodes = now («state_codes» .exit);
+      triples = now (triples .exit);
+    }) ≡ expandSeen inputs latches (now (gates .entry)) (record {
+      inputs = now («input_codes» .entry);
+      states = now («state_codes» .entry);
+      triples = now (triples .entry);
+    }) ⌝ }
+{
+    let said = ordered::expand(
+        inputs as usize,
+        latches as usize,
+        gates,
+        input_codes,
+        state_codes,
+        triples,
+    );
+    ordered::number(said)
 }

@@ -214,28 +214,32 @@ module _ (room : Room) (P : Fault → Type 0) (has : Has room P) where
       (λ few. if (ltb (room .roots) n) (no Short at) (got tt at)
       (λ less. let a = ltb-false limit n few in let b = ltb-true (room .roots) n less in has .short (few-roots (omega arith))) (λ _. tt))
 
-  properties : (s : List ℕ) (h : Header) (sizes : List ℕ) (at : ℕ) → Only P (propertiesAt s h sizes (room .roots) at)
+  properties : (s : List ℕ) (h : Header) (most justice at : ℕ) → Only P (propertiesAt s h most justice (room .roots) at)
   unfolding propertiesAt
-  properties s h sizes at =
-      then (rootRoomAt (rootCount h sizes) (room .roots) at)
-      (λ _ at₁. linesAt s (topCode h) (total sizes) at₁ ▸ λ justice at₂. linesAt s (topCode h) (h .fairness) at₂ ▸ λ fairness at₃. got (fairness ++ justice) at₃)
-      (root-room (rootCount h sizes) at)
-      (λ _ at₁ _. then (linesAt s (topCode h) (total sizes) at₁) (λ justice at₂. linesAt s (topCode h) (h .fairness) at₂ ▸ λ fairness at₃. got (fairness ++ justice) at₃)
-      (lines s (topCode h) (total sizes) at₁)
-      (λ justice at₂ _. then (linesAt s (topCode h) (h .fairness) at₂) (λ fairness at₃. got (fairness ++ justice) at₃) (lines s (topCode h) (h .fairness) at₂) (λ _ at₃ _. tt)))
+  properties s h most justice at =
+      then (rootRoomAt (rootCount h justice) (room .roots) at)
+      (λ _ at₁. linesAt s most justice at₁ ▸ λ later at₂. linesAt s most (h .fairness) at₂ ▸ λ fairness at₃. got (fairness ++ later) at₃)
+      (root-room (rootCount h justice) at)
+      (λ _ at₁ _. then (linesAt s most justice at₁) (λ later at₂. linesAt s most (h .fairness) at₂ ▸ λ fairness at₃. got (fairness ++ later) at₃)
+      (lines s most justice at₁)
+      (λ later at₂ _. then (linesAt s most (h .fairness) at₂) (λ fairness at₃. got (fairness ++ later) at₃) (lines s most (h .fairness) at₂)
+      (λ _ at₃ _. tt)))
 
-  sizes-and : (s : List ℕ) (h : Header) (at : ℕ) → Only P (sizesAt s h (room .roots) at)
+  sizes-and : (s : List ℕ) (h : Header) (most at : ℕ) → Only P (sizesAt s h most (room .roots) at)
   unfolding sizesAt
-  sizes-and s h at =
-      then (linesAt s limit (h .justice) at) (λ sizes at₁. propertiesAt s h sizes (room .roots) at₁ ▸ λ others at₂. got (rootsOf sizes others) at₂) (lines s limit (h .justice) at)
-      (λ sizes at₁ _. then (propertiesAt s h sizes (room .roots) at₁) (λ others at₂. got (rootsOf sizes others) at₂) (properties s h sizes at₁) (λ _ at₂ _. tt))
+  sizes-and s h most at =
+      then (linesAt s limit (h .justice) at)
+      (λ sizes at₁. propertiesAt s h most (total sizes) (room .roots) at₁ ▸ λ others at₂. got (rootsOf sizes others) at₂) (lines s limit (h .justice) at)
+      (λ sizes at₁ _. then (propertiesAt s h most (total sizes) (room .roots) at₁) (λ others at₂. got (rootsOf sizes others) at₂)
+      (properties s h most (total sizes) at₁) (λ _ at₂ _. tt))
 
-  roots : (s : List ℕ) (h : Header) (at : ℕ) → Only P (rootsAt s h (room .roots) at)
+  roots : (s : List ℕ) (h : Header) (most at : ℕ) → Only P (rootsAt s h most (room .roots) at)
   unfolding rootsAt
-  roots s h at =
-      then (linesAt s (topCode h) (firstRoots h) at) (λ first at₁. sizesAt s h (room .roots) at₁ ▸ λ rest at₂. got (rootsOf (rest .sizes) (first ++ rest .roots)) at₂)
-      (lines s (topCode h) (firstRoots h) at)
-      (λ first at₁ _. then (sizesAt s h (room .roots) at₁) (λ rest at₂. got (rootsOf (rest .sizes) (first ++ rest .roots)) at₂) (sizes-and s h at₁) (λ _ at₂ _. tt))
+  roots s h most at =
+      then (linesAt s most (firstRoots h) at)
+      (λ first at₁. sizesAt s h most (room .roots) at₁ ▸ λ rest at₂. got (rootsOf (rest .sizes) (first ++ rest .roots)) at₂) (lines s most (firstRoots h) at)
+      (λ first at₁ _. then (sizesAt s h most (room .roots) at₁) (λ rest at₂. got (rootsOf (rest .sizes) (first ++ rest .roots)) at₂)
+      (sizes-and s h most at₁) (λ _ at₂ _. tt))
 
   -- gates, and the whole
 
@@ -269,10 +273,10 @@ module _ (room : Room) (P : Fault → Type 0) (has : Has room P) where
   unfolding listsAt
   lists s h at =
       then (latchesAt s (topCode h) (h .latches) at)
-      (λ nexts at₁. rootsAt s h (room .roots) at₁ ▸ λ roots at₂. gatesAt s (h .inputs + h .latches) (h .gates) at₂ ▸ λ gates at₃. got (fileWith h nexts roots gates) at₃)
+      (λ nexts at₁. rootsAt s h (topCode h) (room .roots) at₁ ▸ λ roots at₂. gatesAt s (h .inputs + h .latches) (h .gates) at₂ ▸ λ gates at₃. got (fileWith h nexts roots gates) at₃)
       (latches s (topCode h) (h .latches) at)
-      (λ nexts at₁ _. then (rootsAt s h (room .roots) at₁)
-      (λ roots at₂. gatesAt s (h .inputs + h .latches) (h .gates) at₂ ▸ λ gates at₃. got (fileWith h nexts roots gates) at₃) (roots s h at₁)
+      (λ nexts at₁ _. then (rootsAt s h (topCode h) (room .roots) at₁)
+      (λ roots at₂. gatesAt s (h .inputs + h .latches) (h .gates) at₂ ▸ λ gates at₃. got (fileWith h nexts roots gates) at₃) (roots s h (topCode h) at₁)
       (λ rs at₂ _. then (gatesAt s (h .inputs + h .latches) (h .gates) at₂) (λ gates at₃. got (fileWith h nexts rs gates) at₃)
       (gates s (h .inputs + h .latches) (h .gates) at₂) (λ _ at₃ _. tt)))
 

@@ -16,7 +16,7 @@ use Rattle.lines.specs.Numbers.{faultNumber}
 use Rattle.lines.specs.declared.Fault.{Fault}
 use Rattle.lines.specs.Reading.{Read, got, no}
 use Rattle.binary.specs.File.{File, Room, readFile}
-use Rattle.binary.specs.Promise.{Lists, roomOf, answered}
+use Rattle.binary.specs.Promise.{Lists, roomOf, left}
 use Rattle.file_words.specs.Read.{Seen, fileNumber, readSeen}
 use Rattle.file_words.proofs.Refusals.{Smaller, few-nexts, few-gates, few-sizes, few-roots, Only, Has, only-read}
 use Rattle.file_words.proofs.read.Kinds as read-kinds
@@ -99,6 +99,6 @@ pub never-three : (bytes : List ℕ) (l : Lists) (words : List ℕ) → 11 ≤ l
 unfolding readSeen
 never-three bytes l words room a b c d = rw (le-ltb (length words) 11 room) (go (readFile bytes (roomOf l)) refl)
   where
-    go : (R : Read File) → readFile bytes (roomOf l) ≡ R → fileNumber (answered R .answer) ≢ 3
+    go : (R : Read File) → readFile bytes (roomOf l) ≡ R → fileNumber (left R l .read .answer) ≢ 3
     go (got f at) e = omega arith
     go (no why place) e = never-short bytes (roomOf l) a b c d why place e

@@ -8,10 +8,8 @@ use lib.ListN.{length, getD, set}
 use lib.Seq.{sets, sets-eq}
 use borrow.Author.Tests.{lt-ltb, le-ltb}
 use Rattle.circuit.specs.Outcome.{onto}
-use Rattle.lines.specs.Reading.{Read}
 use Rattle.binary.specs.declared.FileRead.{FileRead}
-use Rattle.binary.specs.File.{File, readFile}
-use Rattle.binary.specs.Promise.{Lists, roomOf, answered, left}
+use Rattle.binary.specs.Promise.{Lists, Outcome, outcome}
 use Rattle.file_words.specs.Read.{fileNumber, firstWord, answerWords, seenOf, asSeen, readSeen}
 
 -- five counts read one by one are the list
@@ -47,11 +45,7 @@ module _ (bytes : List ℕ) (l : Lists) (words : List ℕ) where
   unfolding readSeen
   way-short h = rw (lt-ltb (length words) 11 h)
 
-  pub way-read : 11 ≤ length words → (said : FileRead) (after : Lists) (n : ℕ) (ws : List ℕ)
-      → said ≡ answered (readFile bytes (roomOf l)) → after ≡ left (readFile bytes (roomOf l)) l
-      → n ≡ fileNumber (said .answer) → ws ≡ onto (answerWords said) words → seenOf n after ws ≡ readSeen bytes l words
+  pub way-read : 11 ≤ length words → (o : Outcome) (n : ℕ) (ws : List ℕ) → o ≡ outcome bytes l → n ≡ fileNumber (o .read .answer)
+      → ws ≡ onto (answerWords (o .read)) words → seenOf n (o .lists) ws ≡ readSeen bytes l words
   unfolding readSeen
-  way-read h said after n ws e f a w =
-      let R = readFile bytes (roomOf l) in
-      let same = ap (λ (x : FileRead). seenOf (fileNumber (x .answer)) (left R l) (onto (answerWords x) words)) e in
-      rw (le-ltb (length words) 11 h, f, w, a) same
+  way-read h o n ws e a w = rw (le-ltb (length words) 11 h, w, a) (ap (λ (x : Outcome). asSeen x words) e)

@@ -6,12 +6,10 @@ use lib.Dec.{ltb}
 use lib.ListN.{length}
 use Rattle.circuit.specs.Outcome.{onto}
 use Rattle.lines.specs.Numbers.{faultNumber}
-use Rattle.lines.specs.Reading.{Read}
 use Rattle.binary.specs.declared.FileAnswer.{FileAnswer}
 use Rattle.binary.specs.declared.FileAnswer.the-variants.{Taken, Refused}
 use Rattle.binary.specs.declared.FileRead.{FileRead}
-use Rattle.binary.specs.File.{File, readFile}
-use Rattle.binary.specs.Promise.{Lists, roomOf, answered, left}
+use Rattle.binary.specs.Promise.{Lists, Outcome, outcome}
 
 -- all that C sees afterwards: the number answered, the four lists that reading writes, and the answer words
 pub record Seen : Type 0 where
@@ -45,10 +43,10 @@ abbrev pub answerWords : FileRead → List ℕ
 answerWords r =
     firstWord (r .answer) ∷ (r .inputs + r .latches + r .gates) ∷ r .inputs ∷ r .latches ∷ r .gates ∷ (r .counts ++ r .sets ∷ [])
 
--- what is read as C sees it; words past the eleventh stay
-abbrev pub asSeen : Read File → Lists → List ℕ → Seen
-asSeen R l words = seenOf (fileNumber (answered R .answer)) (left R l) (onto (answerWords (answered R)) words)
+-- an outcome as C sees it; words past the eleventh stay
+abbrev pub asSeen : Outcome → List ℕ → Seen
+asSeen o words = seenOf (fileNumber (o .read .answer)) (o .lists) (onto (answerWords (o .read)) words)
 
--- fewer than eleven answer words is refusal 3, tested first, and leaves every list; else it is what reading the bytes gives
+-- fewer than eleven answer words is refusal 3, tested first, and leaves every list; else it is the outcome of reading the bytes into the lists
 unfoldable pub readSeen : List ℕ → Lists → List ℕ → Seen
-readSeen bytes l words = cond (ltb (length words) 11) (seenOf 3 l words) (asSeen (readFile bytes (roomOf l)) l words)
+readSeen bytes l words = cond (ltb (length words) 11) (seenOf 3 l words) (asSeen (outcome bytes l) words)

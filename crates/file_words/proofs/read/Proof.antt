@@ -1,6 +1,6 @@
 use borrow.Author.Needs.{needs}
 use denote.Ref.{now}
-use Rattle.binary.specs.Promise.{listsOf}
+use Rattle.binary.specs.Promise.{listsOf, seen}
 use Rattle.file_words.proofs.Words.{way-short, way-read}
 use Rattle.file_words.proofs.read.Statement.{statement}
 use Rattle.file_words.proofs.read.Tie as tie
@@ -53,8 +53,7 @@ returns-2 c =
     let sizesLeft = said .last .1 .1 .1 .0 in
     let rootsLeft = said .last .1 .1 .1 .1 .0 in
     way-read (now (a .bytes)) (listsOf (now (a .nexts)) (now (a .gates)) (now (a .sizes)) (now (a .roots))) (now (a .answer)) (if1At .if1 .left)
-    (said .result) (listsOf nextsLeft gatesLeft sizesLeft rootsLeft) _ _ (said .ensures .0) (said .ensures .1) (c .number .ensures)
-    (putWordsAt .put-words .ensures)
+    (seen (said .result) (listsOf nextsLeft gatesLeft sizesLeft rootsLeft)) _ _ (said .ensures) (c .number .ensures) (putWordsAt .put-words .ensures)
 
 pub read-spec : {M : Type 1} → statement M
 read-spec =
