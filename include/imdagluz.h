@@ -176,13 +176,14 @@ uint32_t imdagluz_renumber(uint32_t top, const uint32_t *counts, size_t counts_l
  *   answer  0: how many bytes the file took, to the last gate. 1: M, which is I+L+A. 2: I. 3: L. 4: A. 5 to 9: how many roots are outputs, bad states,
  *           constraints, fairness and justice literals, in this order; they add up to R, at most 1,048,575. 10: J, the number of justice sets
  *   nexts   the next states of the latches, in their order
- *   gates   of each gate the larger and then the smaller input: its code less the first delta, and that less the second
+ *   gates   of each gate the larger and then the smaller input: its code less the first delta, and that less the second. A first delta of 0 is taken, and
+ *           gives a gate that needs itself: imdagluz_renumber refuses that with 8 where it walks the gate
  *   sizes   how many literals each justice set has; they add up to answer[9]
  *   roots   outputs, bad states, constraints, fairness, justice, in this order, which is that of imdagluz_renumber: the file has justice before fairness.
  * Words past those named stay as they were. imdagluz_expand makes the lists that imdagluz_renumber takes.
  *
  * Or answers a refusal: the first thing wrong on the way through the file, with its place in answer[0] and 0 in answer[1] to answer[10]. A place is a count of
- * bytes from the first, at most length. Before anything is read:
+ * bytes from the first. Before anything is read:
  *   3   answer_length is below 11; this one writes nothing at all, to no list
  * In the header:
  *   18  the file does not begin with the three bytes aig: place 0
@@ -203,7 +204,7 @@ uint32_t imdagluz_renumber(uint32_t top, const uint32_t *counts, size_t counts_l
  *   15, 16, 17  of a delta, as imdagluz_delta has them, at its first byte.
  * A refusal, but for that of a short answer list, leaves every word of nexts, gates, sizes and roots 0, however long the list: 3 for a short list too.
  *
- * Time: each byte is read once; a refusal takes time in proportion to the lists. */
+ * Time: in proportion to the bytes that are read; a refusal's in proportion to the lists too, which it clears. */
 uint32_t imdagluz_read_aig(const uint8_t *bytes, size_t length,
                            uint32_t *nexts, size_t nexts_length,
                            uint32_t *gates, size_t gates_length,

@@ -160,3 +160,52 @@ static void short_lists(void) {
         cases++;
     }
 }
+
+/* imdagluz_expand: 8 words are lent for each list, more where a case says so; a circuit of two inputs, a latch and two gates. */
+static void expands(const char *what, uint32_t inputs, uint32_t latches, size_t gates_length, const size_t lengths[3], uint32_t number) {
+    static const uint32_t gates[6] = {6, 2, 3, 9, 4294967295, 0}, codes[2] = {2, 4}, states[1] = {6}, triples[6] = {8, 6, 2, 10, 3, 9};
+    const size_t all[LISTS] = {lengths[0], lengths[1], lengths[2], 0};
+    fill(all);
+    uint32_t got = imdagluz_expand(inputs, latches, gates, gates_length, lists[0], lengths[0], lists[1], lengths[1], lists[2], lengths[2]);
+    size_t written = number == 0;
+    if (got != number || !holds(lists[0], lengths[0] + PAST, codes, 2 * written) || !holds(lists[1], lengths[1] + PAST, states, written)
+        || !holds(lists[2], lengths[2] + PAST, triples, 6 * written)) failed(what);
+    cases++;
+}
+
+static void expansions(void) {
+    static const size_t needed[3] = {2, 1, 6}, eight[3] = {8, 8, 8};
+    expands("an expansion", 2, 1, 4, eight, 0);
+    expands("an expansion into lists that are just long enough", 2, 1, 4, needed, 0);
+    expands("too many inputs, and an odd list", 1048576, 0, 3, eight, 1);
+    expands("too many latches", 0, 1048576, 4, eight, 1);
+    expands("inputs and latches that overflow a word", 4294967295, 4294967295, 4, eight, 1);
+    expands("two gates too many", 1048570, 4, 4, eight, 1);
+    expands("as many gates as there may be", 1048570, 4, 2, eight, 3);
+    expands("an odd list, and short ones", 9, 9, 3, eight, 2);
+    for (int i = 0; i < 3; i++) {
+        size_t lengths[3];
+        memcpy(lengths, needed, sizeof lengths);
+        lengths[i]--;
+        expands("an expansion into a list that is a word short", 2, 1, 4, lengths, 3);
+    }
+    /* the gates' codes are copied as they are */
+    static const uint32_t odd[2] = {4294967295, 7};
+    uint32_t triple[3], none[1] = {HELD};
+    if (imdagluz_expand(0, 0, odd, 2, none, 0, none, 0, triple, 3) != 0 || triple[0] != 2 || triple[1] != odd[0] || triple[2] != odd[1] || none[0] != HELD)
+        failed("codes that are over");
+    cases++;
+}
+
+int main(void) {
+    for (int i = 0; i < ROWS; i++) row(&table[i]);
+    for (size_t n = 0; n < SMALL; n++) cut(n);
+    short_lists();
+    expansions();
+    if (good) printf("%d files and circuits as promised\n", cases);
+    if (fflush(stdout) != 0 || ferror(stdout)) {
+        fputs("files: standard output can't be written\n", stderr);
+        return 1;
+    }
+    return good ? 0 : 1;
+}

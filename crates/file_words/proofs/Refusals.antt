@@ -1,7 +1,7 @@
 -- Which refusals reading a file can come to. The file is read forward, so each comes of one of its sections: a decimal number, a byte, a delta, the tests
 -- after the header and where the sizes end. A list is too short only where it is shorter than the limit that the counts are held to. Assumes nothing.
-use Prim.Native.Nat.{ℕ, zero, suc, _+_, _-_, _*_, _≤_, _<_}
-use mathlib.Core.Path.{_≡_, refl, sym, ap, _∙_, subst}
+use Prim.Native.Nat.{ℕ, zero, suc, _+_, _-_, _*_, _<_}
+use mathlib.Core.Path.{_≡_, refl}
 use mathlib.Core.Bool.{Bool, true, false, cond, _||_, _&&_}
 use mathlib.Core.List.{List, [], _∷_, _++_}
 use native.Mathlib.Omega.{arith}
@@ -10,13 +10,12 @@ use lib.ListN.{length, getD, take, drop}
 use borrow.Author.Tests.{ltb-true, ltb-false}
 use Rattle.token.specs.Format.{groupsValue, decimalValue}
 use Rattle.token.specs.Answer.{digitsAt, uintAt, uintOf, within, headerFieldAt, goOnAt, binaryOf, binaryAt, less, deltaAt, pairFirst, pairSecond, pairAt}
-use Rattle.token.specs.declared.Reason.{Reason}
 use Rattle.token.specs.declared.Reason.the-variants.{NoDigit, LeadingZero, OverWidth, OverLimit, Cut, TooLong, OverReference}
 use Rattle.token.specs.declared.Token.{Token}
 use Rattle.token.specs.declared.Token.the-variants.{Value, Refused}
 use Rattle.token.specs.declared.PairToken.{PairToken}
 use Rattle.token.specs.declared.PairToken.the-variants.{Inputs, PairRefused}
-use Rattle.circuit.specs.Walk.{Pair, firstCode}
+use Rattle.circuit.specs.Walk.{firstCode}
 use Rattle.circuit.specs.Outcome.{limit, total}
 use Rattle.lines.specs.declared.Fault.{Fault}
 use Rattle.lines.specs.declared.Fault.the-variants.{Number, Missing, Above, TooMany, Short}
@@ -24,9 +23,9 @@ use Rattle.lines.specs.declared.Header.{Header}
 use Rattle.lines.specs.Reading.{Read, got, no, _▸_, rowAt}
 use Rattle.lines.specs.Limits.{Within}
 use Rattle.lines.specs.Lines.{isByte, byteAt, spaceAt, newlineAt, begins, tagAt, numberOf, numberAt, lineAt, linesAt, resetAt, latchAt, latchesAt}
-use Rattle.lines.specs.Sections.{countAt, optionsAt, headerOf, othersAt, countsAt, headerAt, topCode, firstRoots, rootCount, rootRoomAt, propertiesAt, sizesAt, Roots, rootsOf, rootsAt}
+use Rattle.lines.specs.Sections.{countAt, optionsAt, headerOf, othersAt, countsAt, headerAt, topCode, firstRoots, rootCount, rootRoomAt, propertiesAt, sizesAt, rootsOf, rootsAt}
 use Rattle.lines.proofs.Heads.{header-within}
-use Rattle.binary.specs.File.{tag, File, Room, gateOf, gateAt, gatesAt, fileWith, sizedAt, listsAt, bodyAt, readFile}
+use Rattle.binary.specs.File.{tag, Room, gateOf, gateAt, gatesAt, fileWith, sizedAt, listsAt, bodyAt, readFile}
 
 -- some list is shorter than the limits
 pub data Smaller (room : Room) : Type 0 where
@@ -134,7 +133,9 @@ module _ (room : Room) (P : Fault → Type 0) (has : Has room P) where
 
   number : (s : List ℕ) (most at : ℕ) → Only P (numberAt s most at)
   unfolding numberAt headerFieldAt uintAt
-  number s most at = go (headerFieldAt s at most) (held most at (uintAt s at) (uint (digitsAt s at) (getD s at 0) (decimalValue (take (digitsAt s at) (drop at s))) at))
+  number s most at =
+      let n = digitsAt s at in
+      go (headerFieldAt s at most) (held most at (uintAt s at) (uint n (getD s at 0) (decimalValue (take n (drop at s))) at))
     where
       go : (t : Token) → OnlyToken t → Only P (numberOf at t)
       go (Value v n) h = tt
@@ -188,7 +189,8 @@ module _ (room : Room) (P : Fault → Type 0) (has : Has room P) where
   others : (s : List ℕ) (m i l at : ℕ) → Only P (othersAt s m i l at)
   unfolding othersAt
   others s m i l at =
-      then (countAt s limit at) (λ o at₁. countAt s (m - i - l) at₁ ▸ λ a at₂. optionsAt s 4 at₂ ▸ λ more at₃. got (headerOf m i l o a more) at₃) (count s limit at)
+      then (countAt s limit at)
+      (λ o at₁. countAt s (m - i - l) at₁ ▸ λ a at₂. optionsAt s 4 at₂ ▸ λ more at₃. got (headerOf m i l o a more) at₃) (count s limit at)
       (λ o at₁ _. then (countAt s (m - i - l) at₁) (λ a at₂. optionsAt s 4 at₂ ▸ λ more at₃. got (headerOf m i l o a more) at₃) (count s (m - i - l) at₁)
       (λ a at₂ _. then (optionsAt s 4 at₂) (λ more at₃. got (headerOf m i l o a more) at₃) (options s 4 at₂) (λ _ at₃ _. tt)))
 
@@ -273,7 +275,8 @@ module _ (room : Room) (P : Fault → Type 0) (has : Has room P) where
   unfolding listsAt
   lists s h at =
       then (latchesAt s (topCode h) (h .latches) at)
-      (λ nexts at₁. rootsAt s h (topCode h) (room .roots) at₁ ▸ λ roots at₂. gatesAt s (h .inputs + h .latches) (h .gates) at₂ ▸ λ gates at₃. got (fileWith h nexts roots gates) at₃)
+      (λ nexts at₁. rootsAt s h (topCode h) (room .roots) at₁ ▸ λ roots at₂.
+      gatesAt s (h .inputs + h .latches) (h .gates) at₂ ▸ λ gates at₃. got (fileWith h nexts roots gates) at₃)
       (latches s (topCode h) (h .latches) at)
       (λ nexts at₁ _. then (rootsAt s h (topCode h) (room .roots) at₁)
       (λ roots at₂. gatesAt s (h .inputs + h .latches) (h .gates) at₂ ▸ λ gates at₃. got (fileWith h nexts roots gates) at₃) (roots s h (topCode h) at₁)

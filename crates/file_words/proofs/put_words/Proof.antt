@@ -1,3 +1,4 @@
+-- `put_words` meets its contract: eleven stores from the first word on leave the answer words, and what stood past them. Assumes nothing.
 use Prim.Native.Nat.{ℕ}
 use native.Mathlib.Omega.{arith}
 use lib.ListN.{length-set}
@@ -5,10 +6,6 @@ use borrow.Author.Needs.{needs, length-unmapped}
 use Rattle.file_words.proofs.Words.{words-put}
 use Rattle.file_words.proofs.put_words.Statement.{statement}
 use Rattle.file_words.proofs.put_words.Tie as tie
-use Rattle.file_words.proofs.put_words.Reads as reads
-use Rattle.file_words.proofs.put_words.Lts as lts
-use Rattle.file_words.proofs.first_word.Reads as first-word-reads
-use Rattle.file_words.proofs.word.Reads as word-reads
 
 first-word-requires : tie.Need-first-word-requires
 first-word-requires c κs = search needs

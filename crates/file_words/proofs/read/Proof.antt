@@ -1,14 +1,10 @@
+-- `read` meets its contract: too few answer words, and the outcome of reading, are the two ways out, each by its law. Assumes nothing.
 use borrow.Author.Needs.{needs}
 use denote.Ref.{now}
 use Rattle.binary.specs.Promise.{listsOf, seen}
 use Rattle.file_words.proofs.Words.{way-short, way-read}
 use Rattle.file_words.proofs.read.Statement.{statement}
 use Rattle.file_words.proofs.read.Tie as tie
-use Rattle.file_words.proofs.read.Reads as reads
-use Rattle.file_words.proofs.read.Lts as lts
-use Rattle.binary.proofs.read.Reads as read-reads
-use Rattle.file_words.proofs.number.Reads as number-reads
-use Rattle.file_words.proofs.put_words.Reads as put-words-reads
 
 returns : tie.Need-returns
 returns c =
