@@ -173,7 +173,7 @@ uint32_t imdagluz_renumber(uint32_t top, const uint32_t *counts, size_t counts_l
  *
  * Answers 0 on success. Then the lists hold an ordered circuit, whose inputs have the codes 2, 4, .., 2I, whose latch states go on from there, and whose gate k,
  * counted from 0, has the code 2(I+L+1+k):
- *   answer  0: how many bytes the file took, to the last gate. 1: M, which is I+L+A. 2: I. 3: L. 4: A. 5 to 9: how many roots are outputs, bad states,
+ *   answer  0: how many bytes the file took, to the last gate, at most length. 1: M, which is I+L+A. 2: I. 3: L. 4: A. 5 to 9: how many roots are outputs, bad states,
  *           constraints, fairness and justice literals, in this order; they add up to R, at most 1,048,575. 10: J, the number of justice sets
  *   nexts   the next states of the latches, in their order
  *   gates   of each gate the larger and then the smaller input: its code less the first delta, and that less the second. A first delta of 0 is taken, and
@@ -183,7 +183,7 @@ uint32_t imdagluz_renumber(uint32_t top, const uint32_t *counts, size_t counts_l
  * Words past those named stay as they were. imdagluz_expand makes the lists that imdagluz_renumber takes.
  *
  * Or answers a refusal: the first thing wrong on the way through the file, with its place in answer[0] and 0 in answer[1] to answer[10]. A place is a count of
- * bytes from the first. Before anything is read:
+ * bytes from the first, at most length. Before anything is read:
  *   3   answer_length is below 11; this one writes nothing at all, to no list
  * In the header:
  *   18  the file does not begin with the three bytes aig: place 0

@@ -1,6 +1,7 @@
--- Which refusals reading a file can come to. The file is read forward, so each comes of one of its sections: a decimal number, a byte, a delta, the tests
--- after the header and where the sizes end. A list is too short only where it is shorter than the limit that the counts are held to. Assumes nothing.
-use Prim.Native.Nat.{ℕ, zero, suc, _+_, _-_, _*_, _<_}
+-- Which refusals reading a file can come to, and where. The file is read forward, so each comes of one of its sections: a decimal number, a byte, a delta, the
+-- tests after the header and where the sizes end. A list is too short only where it is shorter than the limit that the counts are held to. What a section reads
+-- stands within the bytes, so no place is past their end. Assumes nothing.
+use Prim.Native.Nat.{ℕ, zero, suc, _+_, _-_, _*_, _≤_, _<_}
 use mathlib.Core.Path.{_≡_, refl}
 use mathlib.Core.Bool.{Bool, true, false, cond, _||_, _&&_}
 use mathlib.Core.List.{List, [], _∷_, _++_}
@@ -10,6 +11,7 @@ use lib.ListN.{length, getD, take, drop}
 use borrow.Author.Tests.{ltb-true, ltb-false}
 use Rattle.token.specs.Format.{groupsValue, decimalValue}
 use Rattle.token.specs.Answer.{digitsAt, uintAt, uintOf, within, headerFieldAt, goOnAt, binaryOf, binaryAt, less, deltaAt, pairFirst, pairSecond, pairAt}
+use Rattle.token.specs.declared.Reason.{Reason}
 use Rattle.token.specs.declared.Reason.the-variants.{NoDigit, LeadingZero, OverWidth, OverLimit, Cut, TooLong, OverReference}
 use Rattle.token.specs.declared.Token.{Token}
 use Rattle.token.specs.declared.Token.the-variants.{Value, Refused}
@@ -24,6 +26,9 @@ use Rattle.lines.specs.Reading.{Read, got, no, _▸_, rowAt}
 use Rattle.lines.specs.Limits.{Within}
 use Rattle.lines.specs.Lines.{isByte, byteAt, spaceAt, newlineAt, begins, tagAt, numberOf, numberAt, lineAt, linesAt, resetAt, latchAt, latchesAt}
 use Rattle.lines.specs.Sections.{countAt, optionsAt, headerOf, othersAt, countsAt, headerAt, topCode, firstRoots, rootCount, rootRoomAt, propertiesAt, sizesAt, rootsOf, rootsAt}
+use Rattle.token.proofs.Refusals.{NamesPlace, RefusedDelta, first, second, header-field-place}
+use Rattle.token.proofs.Theorems.{delta-uses, pair-uses, pair-names-the-delta}
+use Rattle.lines.proofs.Answers.{number-held}
 use Rattle.lines.proofs.Heads.{header-within}
 use Rattle.binary.specs.File.{tag, Room, gateOf, gateAt, gatesAt, fileWith, sizedAt, listsAt, bodyAt, readFile}
 
@@ -34,10 +39,10 @@ pub data Smaller (room : Room) : Type 0 where
   few-sizes : room .sizes < limit → Smaller room
   few-roots : room .roots < limit → Smaller room
 
--- a reading is refused, if at all, for a reason that P has
-abbrev pub Only : {A : Type 0} → (Fault → Type 0) → Read A → Type 0
-Only P (got a at) = Unit {0}
-Only P (no why place) = P why
+-- a reading ends within the bytes s, and is refused, if at all, for a reason that P has
+abbrev pub Only : {A : Type 0} → List ℕ → (Fault → Type 0) → Read A → Type 0
+Only s P (got a at) = at ≤ length s
+Only s P (no why place) = P why × (place ≤ length s)
 
 -- P has every reason that a file in lists of these lengths is refused for
 pub record Has (room : Room) (P : Fault → Type 0) : Type 0 where
@@ -53,22 +58,25 @@ pub record Has (room : Room) (P : Fault → Type 0) : Type 0 where
   pub too-many : P TooMany
   pub short : Smaller room → P Short
 
-module _ (room : Room) (P : Fault → Type 0) (has : Has room P) where
+module _ (s : List ℕ) (room : Room) (P : Fault → Type 0) (has : Has room P) where
   -- steps
 
-  then : {A B : Type 0} (R : Read A) (f : A → ℕ → Read B) → Only P R → ((a : A) (at : ℕ) → R ≡ got a at → Only P (f a at)) → Only P (R ▸ f)
-  then (got a at) f h k = k a at refl
+  abbrev Ends : {A : Type 0} → Read A → Type 0
+  Ends R = Only s P R
+
+  then : {A B : Type 0} (R : Read A) (f : A → ℕ → Read B) → Ends R → ((a : A) (at : ℕ) → R ≡ got a at → at ≤ length s → Ends (f a at)) → Ends (R ▸ f)
+  then (got a at) f h k = k a at refl h
   then (no why place) f h k = h
 
-  if : {A : Type 0} (b : Bool) (R S : Read A) → (b ≡ true → Only P R) → (b ≡ false → Only P S) → Only P (cond b R S)
+  if : {A : Type 0} (b : Bool) (R S : Read A) → (b ≡ true → Ends R) → (b ≡ false → Ends S) → Ends (cond b R S)
   if true R S h k = h refl
   if false R S h k = k refl
 
-  row : {A : Type 0} (thing : ℕ → ℕ → Read A) → ((k at : ℕ) → Only P (thing k at)) → (k n at : ℕ) → Only P (rowAt thing k n at)
-  row thing h k zero at = tt
-  row thing h k (suc n) at =
-      then (thing k at) (λ a at₁. rowAt thing (suc k) n at₁ ▸ λ rest at₂. got (a ∷ rest) at₂) (h k at)
-      (λ a at₁ _. then (rowAt thing (suc k) n at₁) (λ rest at₂. got (a ∷ rest) at₂) (row thing h (suc k) n at₁) (λ rest at₂ _. tt))
+  row : {A : Type 0} (thing : ℕ → ℕ → Read A) → ((k at : ℕ) → at ≤ length s → Ends (thing k at)) → (k n at : ℕ) → at ≤ length s → Ends (rowAt thing k n at)
+  row thing h k zero at i = i
+  row thing h k (suc n) at i =
+      then (thing k at) (λ a at₁. rowAt thing (suc k) n at₁ ▸ λ rest at₂. got (a ∷ rest) at₂) (h k at i)
+      (λ a at₁ _ i₁. then (rowAt thing (suc k) n at₁) (λ rest at₂. got (a ∷ rest) at₂) (row thing h (suc k) n at₁ i₁) (λ rest at₂ _ i₂. i₂))
 
   -- tokens
 
@@ -113,178 +121,203 @@ module _ (room : Room) (P : Fault → Type 0) (has : Has room P) where
       go false = has .over-reference
   taken-from reference at (Refused why place) h = h
 
-  delta : (s : List ℕ) (at reference : ℕ) → OnlyToken (deltaAt s at reference)
+  delta : (at reference : ℕ) → OnlyToken (deltaAt s at reference)
   unfolding deltaAt binaryAt
-  delta s at reference = taken-from reference at (binaryOf (take 8 (drop at s)) (goOnAt s at) at) (groups (take 8 (drop at s)) (goOnAt s at) at)
+  delta at reference = taken-from reference at (binaryOf (take 8 (drop at s)) (goOnAt s at) at) (groups (take 8 (drop at s)) (goOnAt s at) at)
 
-  pair : (s : List ℕ) (at code : ℕ) → OnlyPair (pairAt s at code)
+  pair : (at code : ℕ) → OnlyPair (pairAt s at code)
   unfolding pairAt
-  pair s at code = first (deltaAt s at code) (delta s at code)
+  pair at code = first (deltaAt s at code) (delta at code)
     where
       second : (a n : ℕ) (t : Token) → OnlyToken t → OnlyPair (pairSecond code at a n t)
       second a n (Value b m) h = tt
       second a n (Refused why place) h = h
 
       first : (t : Token) → OnlyToken t → OnlyPair (pairFirst s code at t)
-      first (Value a n) h = second a n (deltaAt s (at + n) a) (delta s (at + n) a)
+      first (Value a n) h = second a n (deltaAt s (at + n) a) (delta (at + n) a)
       first (Refused why place) h = h
 
   -- numbers, bytes and lines
 
-  number : (s : List ℕ) (most at : ℕ) → Only P (numberAt s most at)
-  unfolding numberAt headerFieldAt uintAt
-  number s most at =
+  number-only : (most at : ℕ) → OnlyToken (headerFieldAt s at most)
+  unfolding headerFieldAt uintAt
+  number-only most at =
       let n = digitsAt s at in
-      go (headerFieldAt s at most) (held most at (uintAt s at) (uint n (getD s at 0) (decimalValue (take n (drop at s))) at))
+      held most at (uintAt s at) (uint n (getD s at 0) (decimalValue (take n (drop at s))) at)
+
+  number : (most at : ℕ) → at ≤ length s → Ends (numberAt s most at)
+  unfolding numberAt
+  number most at i = go (headerFieldAt s at most) refl (number-only most at) (header-field-place s at most)
     where
-      go : (t : Token) → OnlyToken t → Only P (numberOf at t)
-      go (Value v n) h = tt
-      go (Refused why place) h = h
+      go : (t : Token) → headerFieldAt s at most ≡ t → OnlyToken t → NamesPlace at t → Ends (numberOf at t)
+      go (Value v n) e h p = number-held s most at v n e .inside
+      go (Refused why place) e h p = (h, omega (arith, i, p))
 
-  byte : (s : List ℕ) (b at : ℕ) → Only P (byteAt s b at)
-  unfolding byteAt
-  byte s b at = if (isByte s b at) (got tt (at + 1)) (no Missing at) (λ _. tt) (λ _. has .missing)
+  byte : (b at : ℕ) → at ≤ length s → Ends (byteAt s b at)
+  unfolding byteAt isByte
+  byte b at i = go (ltb at (length s)) (eqb (getD s at 0) b) refl
+    where
+      go : (x y : Bool) → ltb at (length s) ≡ x → Ends {A = Unit {0}} (cond (x && y) (got tt (at + 1)) (no Missing at))
+      go true true e = let less = ltb-true at (length s) e in omega arith
+      go true false e = (has .missing, i)
+      go false y e = (has .missing, i)
 
-  line : (s : List ℕ) (most at : ℕ) → Only P (lineAt s most at)
+  line : (most at : ℕ) → at ≤ length s → Ends (lineAt s most at)
   unfolding lineAt
-  line s most at =
-      then (numberAt s most at) (λ v at₁. newlineAt s at₁ ▸ λ _ at₂. got v at₂) (number s most at)
-      (λ v at₁ _. then (newlineAt s at₁) (λ _ at₂. got v at₂) (byte s 10 at₁) (λ _ at₂ _. tt))
+  line most at i =
+      then (numberAt s most at) (λ v at₁. newlineAt s at₁ ▸ λ _ at₂. got v at₂) (number most at i)
+      (λ v at₁ _ i₁. then (newlineAt s at₁) (λ _ at₂. got v at₂) (byte 10 at₁ i₁) (λ _ at₂ _ i₂. i₂))
 
-  lines : (s : List ℕ) (most n at : ℕ) → Only P (linesAt s most n at)
+  lines : (most n at : ℕ) → at ≤ length s → Ends (linesAt s most n at)
   unfolding linesAt
-  lines s most n at = row (λ k. lineAt s most) (λ k at₁. line s most at₁) 0 n at
+  lines most n at i = row (λ k. lineAt s most) (λ k at₁ i₁. line most at₁ i₁) 0 n at i
 
-  reset : (s : List ℕ) (most at : ℕ) → Only P (resetAt s most at)
+  reset : (most at : ℕ) → at ≤ length s → Ends (resetAt s most at)
   unfolding resetAt
-  reset s most at =
+  reset most at i =
       if (isByte s 32 at) (spaceAt s at ▸ λ _ at₁. lineAt s most at₁) (newlineAt s at ▸ λ _ at₁. got 0 at₁)
-      (λ _. then (spaceAt s at) (λ _ at₁. lineAt s most at₁) (byte s 32 at) (λ _ at₁ _. line s most at₁))
-      (λ _. then (newlineAt s at) (λ _ at₁. got 0 at₁) (byte s 10 at) (λ _ at₁ _. tt))
+      (λ _. then (spaceAt s at) (λ _ at₁. lineAt s most at₁) (byte 32 at i) (λ _ at₁ _ i₁. line most at₁ i₁))
+      (λ _. then (newlineAt s at) (λ _ at₁. got 0 at₁) (byte 10 at i) (λ _ at₁ _ i₁. i₁))
 
-  latch : (s : List ℕ) (most at : ℕ) → Only P (latchAt s most at)
+  latch : (most at : ℕ) → at ≤ length s → Ends (latchAt s most at)
   unfolding latchAt
-  latch s most at =
-      then (numberAt s most at) (λ next at₁. resetAt s most at₁ ▸ λ reset at₂. got next at₂) (number s most at)
-      (λ next at₁ _. then (resetAt s most at₁) (λ reset at₂. got next at₂) (reset s most at₁) (λ _ at₂ _. tt))
+  latch most at i =
+      then (numberAt s most at) (λ next at₁. resetAt s most at₁ ▸ λ reset at₂. got next at₂) (number most at i)
+      (λ next at₁ _ i₁. then (resetAt s most at₁) (λ reset at₂. got next at₂) (reset most at₁ i₁) (λ _ at₂ _ i₂. i₂))
 
-  latches : (s : List ℕ) (most n at : ℕ) → Only P (latchesAt s most n at)
+  latches : (most n at : ℕ) → at ≤ length s → Ends (latchesAt s most n at)
   unfolding latchesAt
-  latches s most n at = row (λ k. latchAt s most) (λ k at₁. latch s most at₁) 0 n at
+  latches most n at i = row (λ k. latchAt s most) (λ k at₁ i₁. latch most at₁ i₁) 0 n at i
 
   -- the header
 
-  count : (s : List ℕ) (most at : ℕ) → Only P (countAt s most at)
+  count : (most at : ℕ) → at ≤ length s → Ends (countAt s most at)
   unfolding countAt
-  count s most at = then (spaceAt s at) (λ _ at₁. numberAt s most at₁) (byte s 32 at) (λ _ at₁ _. number s most at₁)
+  count most at i = then (spaceAt s at) (λ _ at₁. numberAt s most at₁) (byte 32 at i) (λ _ at₁ _ i₁. number most at₁ i₁)
 
-  options : (s : List ℕ) (n at : ℕ) → Only P (optionsAt s n at)
-  options s zero at = then (newlineAt s at) (λ _ at₁. got [] at₁) (byte s 10 at) (λ _ at₁ _. tt)
-  options s (suc n) at =
+  options : (n at : ℕ) → at ≤ length s → Ends (optionsAt s n at)
+  options zero at i = then (newlineAt s at) (λ _ at₁. got [] at₁) (byte 10 at i) (λ _ at₁ _ i₁. i₁)
+  options (suc n) at i =
       if (isByte s 32 at) (countAt s limit at ▸ λ v at₁. optionsAt s n at₁ ▸ λ vs at₂. got (v ∷ vs) at₂) (newlineAt s at ▸ λ _ at₁. got [] at₁)
-      (λ _. then (countAt s limit at) (λ v at₁. optionsAt s n at₁ ▸ λ vs at₂. got (v ∷ vs) at₂) (count s limit at)
-      (λ v at₁ _. then (optionsAt s n at₁) (λ vs at₂. got (v ∷ vs) at₂) (options s n at₁) (λ _ at₂ _. tt)))
-      (λ _. then (newlineAt s at) (λ _ at₁. got [] at₁) (byte s 10 at) (λ _ at₁ _. tt))
+      (λ _. then (countAt s limit at) (λ v at₁. optionsAt s n at₁ ▸ λ vs at₂. got (v ∷ vs) at₂) (count limit at i)
+      (λ v at₁ _ i₁. then (optionsAt s n at₁) (λ vs at₂. got (v ∷ vs) at₂) (options n at₁ i₁) (λ _ at₂ _ i₂. i₂)))
+      (λ _. then (newlineAt s at) (λ _ at₁. got [] at₁) (byte 10 at i) (λ _ at₁ _ i₁. i₁))
 
-  others : (s : List ℕ) (m i l at : ℕ) → Only P (othersAt s m i l at)
+  others : (m i l at : ℕ) → at ≤ length s → Ends (othersAt s m i l at)
   unfolding othersAt
-  others s m i l at =
+  others m i l at j =
       then (countAt s limit at)
-      (λ o at₁. countAt s (m - i - l) at₁ ▸ λ a at₂. optionsAt s 4 at₂ ▸ λ more at₃. got (headerOf m i l o a more) at₃) (count s limit at)
-      (λ o at₁ _. then (countAt s (m - i - l) at₁) (λ a at₂. optionsAt s 4 at₂ ▸ λ more at₃. got (headerOf m i l o a more) at₃) (count s (m - i - l) at₁)
-      (λ a at₂ _. then (optionsAt s 4 at₂) (λ more at₃. got (headerOf m i l o a more) at₃) (options s 4 at₂) (λ _ at₃ _. tt)))
+      (λ o at₁. countAt s (m - i - l) at₁ ▸ λ a at₂. optionsAt s 4 at₂ ▸ λ more at₃. got (headerOf m i l o a more) at₃) (count limit at j)
+      (λ o at₁ _ j₁. then (countAt s (m - i - l) at₁) (λ a at₂. optionsAt s 4 at₂ ▸ λ more at₃. got (headerOf m i l o a more) at₃)
+      (count (m - i - l) at₁ j₁)
+      (λ a at₂ _ j₂. then (optionsAt s 4 at₂) (λ more at₃. got (headerOf m i l o a more) at₃) (options 4 at₂ j₂) (λ _ at₃ _ j₃. j₃)))
 
-  counts : (s : List ℕ) (at : ℕ) → Only P (countsAt s at)
+  counts : (at : ℕ) → at ≤ length s → Ends (countsAt s at)
   unfolding countsAt
-  counts s at =
-      then (countAt s limit at) (λ m at₁. countAt s m at₁ ▸ λ i at₂. countAt s (m - i) at₂ ▸ λ l at₃. othersAt s m i l at₃) (count s limit at)
-      (λ m at₁ _. then (countAt s m at₁) (λ i at₂. countAt s (m - i) at₂ ▸ λ l at₃. othersAt s m i l at₃) (count s m at₁)
-      (λ i at₂ _. then (countAt s (m - i) at₂) (λ l at₃. othersAt s m i l at₃) (count s (m - i) at₂) (λ l at₃ _. others s m i l at₃)))
+  counts at j =
+      then (countAt s limit at) (λ m at₁. countAt s m at₁ ▸ λ i at₂. countAt s (m - i) at₂ ▸ λ l at₃. othersAt s m i l at₃) (count limit at j)
+      (λ m at₁ _ j₁. then (countAt s m at₁) (λ i at₂. countAt s (m - i) at₂ ▸ λ l at₃. othersAt s m i l at₃) (count m at₁ j₁)
+      (λ i at₂ _ j₂. then (countAt s (m - i) at₂) (λ l at₃. othersAt s m i l at₃) (count (m - i) at₂ j₂) (λ l at₃ _ j₃. others m i l at₃ j₃)))
 
-  header : (s bytes : List ℕ) → Only P (headerAt s bytes)
+  begun : (bytes rest : List ℕ) → begins bytes rest ≡ true → length bytes ≤ length rest
+  begun [] rest e = omega arith
+  begun (b ∷ bs) [] e = absurd (let z : _≡_ {A = ℕ} 0 1 = cc in omega arith)
+  begun (b ∷ bs) (c ∷ rest) e = go (eqb c b) (λ f. begun bs rest f) e
+    where
+      go : (x : Bool) → (begins bs rest ≡ true → length bs ≤ length rest) → x && begins bs rest ≡ true → suc (length bs) ≤ suc (length rest)
+      go true more f = let fewer = more f in omega arith
+      go false more f = absurd (let z : _≡_ {A = ℕ} 0 1 = cc in omega arith)
+
+  header : (bytes : List ℕ) → Ends (headerAt s bytes)
   unfolding headerAt tagAt
-  header s bytes =
-      then (tagAt s bytes) (λ _ at. countsAt s at) (if (begins bytes s) (got tt (length bytes)) (no Missing 0) (λ _. tt) (λ _. has .missing))
-      (λ _ at _. counts s at)
+  header bytes =
+      then (tagAt s bytes) (λ _ at. countsAt s at)
+      (if (begins bytes s) (got tt (length bytes)) (no Missing 0) (λ e. begun bytes s e) (λ _. (has .missing, omega arith))) (λ _ at _ i. counts at i)
 
   -- the root section
 
-  root-room : (n at : ℕ) → Only P (rootRoomAt n (room .roots) at)
+  root-room : (n at : ℕ) → at ≤ length s → Ends (rootRoomAt n (room .roots) at)
   unfolding rootRoomAt
-  root-room n at =
-      if (ltb limit n) (no TooMany at) (cond (ltb (room .roots) n) (no Short at) (got tt at)) (λ _. has .too-many)
+  root-room n at i =
+      if (ltb limit n) (no TooMany at) (cond (ltb (room .roots) n) (no Short at) (got tt at)) (λ _. (has .too-many, i))
       (λ few. if (ltb (room .roots) n) (no Short at) (got tt at)
-      (λ less. let a = ltb-false limit n few in let b = ltb-true (room .roots) n less in has .short (few-roots (omega arith))) (λ _. tt))
+      (λ less. let a = ltb-false limit n few in let b = ltb-true (room .roots) n less in (has .short (few-roots (omega arith)), i)) (λ _. i))
 
-  properties : (s : List ℕ) (h : Header) (most justice at : ℕ) → Only P (propertiesAt s h most justice (room .roots) at)
+  properties : (h : Header) (most justice at : ℕ) → at ≤ length s → Ends (propertiesAt s h most justice (room .roots) at)
   unfolding propertiesAt
-  properties s h most justice at =
+  properties h most justice at i =
       then (rootRoomAt (rootCount h justice) (room .roots) at)
       (λ _ at₁. linesAt s most justice at₁ ▸ λ later at₂. linesAt s most (h .fairness) at₂ ▸ λ fairness at₃. got (fairness ++ later) at₃)
-      (root-room (rootCount h justice) at)
-      (λ _ at₁ _. then (linesAt s most justice at₁) (λ later at₂. linesAt s most (h .fairness) at₂ ▸ λ fairness at₃. got (fairness ++ later) at₃)
-      (lines s most justice at₁)
-      (λ later at₂ _. then (linesAt s most (h .fairness) at₂) (λ fairness at₃. got (fairness ++ later) at₃) (lines s most (h .fairness) at₂)
-      (λ _ at₃ _. tt)))
+      (root-room (rootCount h justice) at i)
+      (λ _ at₁ _ i₁. then (linesAt s most justice at₁) (λ later at₂. linesAt s most (h .fairness) at₂ ▸ λ fairness at₃. got (fairness ++ later) at₃)
+      (lines most justice at₁ i₁)
+      (λ later at₂ _ i₂. then (linesAt s most (h .fairness) at₂) (λ fairness at₃. got (fairness ++ later) at₃) (lines most (h .fairness) at₂ i₂)
+      (λ _ at₃ _ i₃. i₃)))
 
-  sizes-and : (s : List ℕ) (h : Header) (most at : ℕ) → Only P (sizesAt s h most (room .roots) at)
+  sizes-and : (h : Header) (most at : ℕ) → at ≤ length s → Ends (sizesAt s h most (room .roots) at)
   unfolding sizesAt
-  sizes-and s h most at =
+  sizes-and h most at i =
       then (linesAt s limit (h .justice) at)
-      (λ sizes at₁. propertiesAt s h most (total sizes) (room .roots) at₁ ▸ λ others at₂. got (rootsOf sizes others) at₂) (lines s limit (h .justice) at)
-      (λ sizes at₁ _. then (propertiesAt s h most (total sizes) (room .roots) at₁) (λ others at₂. got (rootsOf sizes others) at₂)
-      (properties s h most (total sizes) at₁) (λ _ at₂ _. tt))
+      (λ sizes at₁. propertiesAt s h most (total sizes) (room .roots) at₁ ▸ λ others at₂. got (rootsOf sizes others) at₂) (lines limit (h .justice) at i)
+      (λ sizes at₁ _ i₁. then (propertiesAt s h most (total sizes) (room .roots) at₁) (λ others at₂. got (rootsOf sizes others) at₂)
+      (properties h most (total sizes) at₁ i₁) (λ _ at₂ _ i₂. i₂))
 
-  roots : (s : List ℕ) (h : Header) (most at : ℕ) → Only P (rootsAt s h most (room .roots) at)
+  roots : (h : Header) (most at : ℕ) → at ≤ length s → Ends (rootsAt s h most (room .roots) at)
   unfolding rootsAt
-  roots s h most at =
+  roots h most at i =
       then (linesAt s most (firstRoots h) at)
-      (λ first at₁. sizesAt s h most (room .roots) at₁ ▸ λ rest at₂. got (rootsOf (rest .sizes) (first ++ rest .roots)) at₂) (lines s most (firstRoots h) at)
-      (λ first at₁ _. then (sizesAt s h most (room .roots) at₁) (λ rest at₂. got (rootsOf (rest .sizes) (first ++ rest .roots)) at₂)
-      (sizes-and s h most at₁) (λ _ at₂ _. tt))
+      (λ first at₁. sizesAt s h most (room .roots) at₁ ▸ λ rest at₂. got (rootsOf (rest .sizes) (first ++ rest .roots)) at₂) (lines most (firstRoots h) at i)
+      (λ first at₁ _ i₁. then (sizesAt s h most (room .roots) at₁) (λ rest at₂. got (rootsOf (rest .sizes) (first ++ rest .roots)) at₂)
+      (sizes-and h most at₁ i₁) (λ _ at₂ _ i₂. i₂))
 
   -- gates, and the whole
 
-  gate : (s : List ℕ) (n k at : ℕ) → Only P (gateAt s n k at)
+  gate : (n k at : ℕ) → at ≤ length s → Ends (gateAt s n k at)
   unfolding gateAt
-  gate s n k at = go (pairAt s at (firstCode n + 2 * k)) (pair s at (firstCode n + 2 * k))
+  gate n k at i = go (pairAt s at (firstCode n + 2 * k)) refl (pair at (firstCode n + 2 * k))
     where
-      go : (t : PairToken) → OnlyPair t → Only P (gateOf at t)
-      go (Inputs a b used) h = tt
-      go (PairRefused why place) h = h
+      placed : (why : Reason) (place : ℕ) → RefusedDelta s at (firstCode n + 2 * k) why place → place ≤ length s
+      placed why place (first e p) = omega (arith, i, p)
+      placed why place (second a m e f p) = omega (arith, delta-uses s at (firstCode n + 2 * k) a m e, p)
 
-  gates : (s : List ℕ) (n m at : ℕ) → Only P (gatesAt s n m at)
+      go : (t : PairToken) → pairAt s at (firstCode n + 2 * k) ≡ t → OnlyPair t → Ends (gateOf at t)
+      go (Inputs a b used) e h = pair-uses s at (firstCode n + 2 * k) a b used e .inside
+      go (PairRefused why place) e h = (h, placed why place (pair-names-the-delta s at (firstCode n + 2 * k) why place e))
+
+  gates : (n m at : ℕ) → at ≤ length s → Ends (gatesAt s n m at)
   unfolding gatesAt
-  gates s n m at = row (gateAt s n) (gate s n) 0 m at
+  gates n m at i = row (gateAt s n) (gate n) 0 m at i
 
-  sized : (h : Header) (at : ℕ) → Within h → Only P (sizedAt h room at)
+  sized : (h : Header) (at : ℕ) → Within h → at ≤ length s → Ends (sizedAt h room at)
   unfolding sizedAt
-  sized h at w =
+  sized h at w i =
       if (ltb (h .inputs + h .latches + h .gates) (h .top)) (no Above at)
-      (cond (ltb (room .nexts) (h .latches) || ltb (room .gates) (2 * h .gates) || ltb (room .sizes) (h .justice)) (no Short at) (got tt at)) (λ _. has .above)
+      (cond (ltb (room .nexts) (h .latches) || ltb (room .gates) (2 * h .gates) || ltb (room .sizes) (h .justice)) (no Short at) (got tt at))
+      (λ _. (has .above, i))
       (λ _. go (ltb (room .nexts) (h .latches)) (ltb (room .gates) (2 * h .gates)) (ltb (room .sizes) (h .justice)) refl refl refl)
     where
       go : (a b c : Bool) → ltb (room .nexts) (h .latches) ≡ a → ltb (room .gates) (2 * h .gates) ≡ b → ltb (room .sizes) (h .justice) ≡ c
-          → Only {A = Unit {0}} P (cond (a || b || c) (no Short at) (got tt at))
-      go true b c e f g = let less = ltb-true (room .nexts) (h .latches) e in has .short (few-nexts (omega (arith, w .defined, w .top)))
-      go false true c e f g = let less = ltb-true (room .gates) (2 * h .gates) f in has .short (few-gates (omega (arith, w .defined, w .top)))
-      go false false true e f g = let less = ltb-true (room .sizes) (h .justice) g in has .short (few-sizes (omega (arith, w .justice)))
-      go false false false e f g = tt
+          → Ends {A = Unit {0}} (cond (a || b || c) (no Short at) (got tt at))
+      go true b c e f g = let less = ltb-true (room .nexts) (h .latches) e in (has .short (few-nexts (omega (arith, w .defined, w .top))), i)
+      go false true c e f g = let less = ltb-true (room .gates) (2 * h .gates) f in (has .short (few-gates (omega (arith, w .defined, w .top))), i)
+      go false false true e f g = let less = ltb-true (room .sizes) (h .justice) g in (has .short (few-sizes (omega (arith, w .justice))), i)
+      go false false false e f g = i
 
-  lists : (s : List ℕ) (h : Header) (at : ℕ) → Only P (listsAt s (room .roots) h at)
+  lists : (h : Header) (at : ℕ) → at ≤ length s → Ends (listsAt s (room .roots) h at)
   unfolding listsAt
-  lists s h at =
+  lists h at i =
       then (latchesAt s (topCode h) (h .latches) at)
       (λ nexts at₁. rootsAt s h (topCode h) (room .roots) at₁ ▸ λ roots at₂.
       gatesAt s (h .inputs + h .latches) (h .gates) at₂ ▸ λ gates at₃. got (fileWith h nexts roots gates) at₃)
-      (latches s (topCode h) (h .latches) at)
-      (λ nexts at₁ _. then (rootsAt s h (topCode h) (room .roots) at₁)
-      (λ roots at₂. gatesAt s (h .inputs + h .latches) (h .gates) at₂ ▸ λ gates at₃. got (fileWith h nexts roots gates) at₃) (roots s h (topCode h) at₁)
-      (λ rs at₂ _. then (gatesAt s (h .inputs + h .latches) (h .gates) at₂) (λ gates at₃. got (fileWith h nexts rs gates) at₃)
-      (gates s (h .inputs + h .latches) (h .gates) at₂) (λ _ at₃ _. tt)))
+      (latches (topCode h) (h .latches) at i)
+      (λ nexts at₁ _ i₁. then (rootsAt s h (topCode h) (room .roots) at₁)
+      (λ roots at₂. gatesAt s (h .inputs + h .latches) (h .gates) at₂ ▸ λ gates at₃. got (fileWith h nexts roots gates) at₃) (roots h (topCode h) at₁ i₁)
+      (λ rs at₂ _ i₂. then (gatesAt s (h .inputs + h .latches) (h .gates) at₂) (λ gates at₃. got (fileWith h nexts rs gates) at₃)
+      (gates (h .inputs + h .latches) (h .gates) at₂ i₂) (λ _ at₃ _ i₃. i₃)))
 
-  pub only-read : (s : List ℕ) → Only P (readFile s room)
+  pub only-read : Only s P (readFile s room)
   unfolding readFile bodyAt
-  only-read s =
-      then (headerAt s tag) (λ h at. bodyAt s room h at) (header s tag)
-      (λ h at e. then (sizedAt h room at) (λ _ at₁. listsAt s (room .roots) h at₁) (sized h at (header-within s tag h at e)) (λ _ at₁ _. lists s h at₁))
+  only-read =
+      then (headerAt s tag) (λ h at. bodyAt s room h at) (header tag)
+      (λ h at e i. then (sizedAt h room at) (λ _ at₁. listsAt s (room .roots) h at₁) (sized h at (header-within s tag h at e) i)
+      (λ _ at₁ _ i₁. lists h at₁ i₁))

@@ -1,5 +1,5 @@
--- What follows of the contract of reading for C: it allows one outcome, gives these refusals and no others, and with lists of the limits never 3. The
--- examples stand in Pins.antt. Assumes nothing.
+-- What follows of the contract of reading for C: it allows one outcome, gives these refusals and no others, none past the end, and with lists of the limits
+-- never 3. The examples stand in Pins.antt. Assumes nothing.
 use Prim.Native.Nat.{ℕ, _*_, _≤_}
 use mathlib.Core.Path.{_≡_, refl, sym, _∙_, ap}
 use mathlib.Core.Logic.{_≢_}
@@ -32,7 +32,7 @@ one-read κs a x y e f p q =
 -- no file is refused by 3 in lists of the limits: 1,048,575 words for next states, sizes and roots, 2,097,150 for gates
 pub never-short : (bytes : List ℕ) (room : Room) → limit ≤ room .nexts → 2 * limit ≤ room .gates → limit ≤ room .sizes → limit ≤ room .roots
     → (why : Fault) (place : ℕ) → readFile bytes room ≡ no why place → faultNumber why ≢ 3
-never-short bytes room a b c d why place e = refusal (readFile bytes room) (only-read room (λ w. faultNumber w ≢ 3) has bytes) e
+never-short bytes room a b c d why place e = refusal (readFile bytes room) (only-read bytes room (λ w. faultNumber w ≢ 3) has) e
   where
     small : Smaller room → ⊥
     small (few-nexts h) = omega arith
@@ -56,9 +56,9 @@ never-short bytes room a b c d why place e = refusal (readFile bytes room) (only
           short = λ h. absurd (small h);
         }
 
-    refusal : (R : Read File) → Only (λ w. faultNumber w ≢ 3) R → R ≡ no why place → faultNumber why ≢ 3
+    refusal : (R : Read File) → Only bytes (λ w. faultNumber w ≢ 3) R → R ≡ no why place → faultNumber why ≢ 3
     refusal (got f at) h e = absurd (let z : _≡_ {A = ℕ} 0 1 = cc in omega arith)
-    refusal (no w at) h e = let same : w ≡ why = cc in rw (← same) h
+    refusal (no w at) h e = let same : w ≡ why = cc in rw (← same) (h .0)
 
 -- whether a number is one of a list
 abbrev pub among : ℕ → List ℕ → Bool
@@ -66,32 +66,40 @@ among n [] = false
 among n (m ∷ ms) = eqb n m || among n ms
 
 -- a file is refused by one of these numbers, whatever the lists
-pub numbers-given : (bytes : List ℕ) (room : Room) (why : Fault) (place : ℕ) → readFile bytes room ≡ no why place
-    → among (faultNumber why) (1 ∷ 3 ∷ 10 ∷ 11 ∷ 12 ∷ 15 ∷ 16 ∷ 17 ∷ 18 ∷ 19 ∷ []) ≡ true
-numbers-given bytes room why place e = refusal (readFile bytes room) (only-read room Given has bytes) e
+abbrev pub Given : Fault → Type 0
+Given why = among (faultNumber why) (1 ∷ 3 ∷ 10 ∷ 11 ∷ 12 ∷ 15 ∷ 16 ∷ 17 ∷ 18 ∷ 19 ∷ []) ≡ true
+
+has-given : (room : Room) → Has room Given
+has-given room =
+    record {
+      no-digit = refl;
+      leading-zero = refl;
+      over-width = refl;
+      over-limit = refl;
+      cut = refl;
+      too-long = refl;
+      over-reference = refl;
+      missing = refl;
+      above = refl;
+      too-many = refl;
+      short = λ h. refl;
+    }
+
+-- and its place is not past the end of the bytes
+pub refusals-given : (bytes : List ℕ) (room : Room) (why : Fault) (place : ℕ) → readFile bytes room ≡ no why place → Given why × (place ≤ length bytes)
+refusals-given bytes room why place e = refusal (readFile bytes room) (only-read bytes room Given (has-given room)) e
   where
-    Given : Fault → Type 0
-    Given w = among (faultNumber w) (1 ∷ 3 ∷ 10 ∷ 11 ∷ 12 ∷ 15 ∷ 16 ∷ 17 ∷ 18 ∷ 19 ∷ []) ≡ true
-
-    has : Has room Given
-    has =
-        record {
-          no-digit = refl;
-          leading-zero = refl;
-          over-width = refl;
-          over-limit = refl;
-          cut = refl;
-          too-long = refl;
-          over-reference = refl;
-          missing = refl;
-          above = refl;
-          too-many = refl;
-          short = λ h. refl;
-        }
-
-    refusal : (R : Read File) → Only Given R → R ≡ no why place → Given why
+    refusal : (R : Read File) → Only bytes Given R → R ≡ no why place → Given why × (place ≤ length bytes)
     refusal (got f at) h e = absurd (let z : _≡_ {A = ℕ} 0 1 = cc in omega arith)
-    refusal (no w at) h e = let same : w ≡ why = cc in rw (← same) h
+    refusal (no w at) h e = let same : w ≡ why = cc in let here : at ≡ place = cc in (rw (← same) (h .0), omega (arith, h .1, here))
+
+-- nor are there more bytes used than there are
+pub bytes-used : (bytes : List ℕ) (room : Room) (f : File) (n : ℕ) → readFile bytes room ≡ got f n → n ≤ length bytes
+bytes-used bytes room f n e = taken (readFile bytes room) (only-read bytes room Given (has-given room)) e
+  where
+    taken : (R : Read File) → Only bytes Given R → R ≡ got f n → n ≤ length bytes
+    taken (got g at) h e = let here : at ≡ n = cc in omega (arith, h, here)
+    taken (no w at) h e = absurd (let z : _≡_ {A = ℕ} 0 1 = cc in omega arith)
 
 -- the same of what C sees: with room for the answer and lists of the limits, 3 is not answered
 pub never-three : (bytes : List ℕ) (l : Lists) (words : List ℕ) → 11 ≤ length words → limit ≤ length (l .nexts) → 2 * limit ≤ length (l .gates)
