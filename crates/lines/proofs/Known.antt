@@ -1,8 +1,8 @@
 -- What holds of lines, latch lines and a root section that are read: how many there are, and that each literal is within the limit. Assumes nothing.
 use Prim.Native.Nat.{ℕ, _+_, _≤_}
-use mathlib.Core.Path.{_≡_, refl, sym, ap, _∙_, subst, subst⁻¹}
+use mathlib.Core.Path.{_≡_, subst}
 use mathlib.Core.Logic.{_⊎_, inl, inr}
-use mathlib.Core.List.{List, [], _∷_, _++_}
+use mathlib.Core.List.{List, _++_}
 use native.Mathlib.Omega.{arith}
 use lib.ListN.{length, length-append}
 use Rattle.circuit.specs.Graph.{In}
@@ -10,10 +10,10 @@ use Rattle.circuit.specs.Outcome.{limit, total}
 use Rattle.circuit.specs.Claims.{AllWithin}
 use Rattle.circuit.proofs.Lists.{In-cases}
 use Rattle.lines.specs.declared.Header.{Header}
-use Rattle.lines.specs.Reading.{Read, got, _▸_, rowAt}
+use Rattle.lines.specs.Reading.{Read, got, _▸_}
 use Rattle.lines.specs.Lines.{newlineAt, numberAt, lineAt, linesAt, resetAt, latchAt, latchesAt}
 use Rattle.lines.specs.Sections.{Roots, rootsOf, firstRoots, rootCount, rootRoomAt, propertiesAt, sizesAt, rootsAt}
-use Rattle.lines.proofs.Heads.{Two, two, got-same, number-within, row-length, row-each}
+use Rattle.lines.proofs.Heads.{two, got-same, number-within, row-length, row-each}
 use Rattle.lines.proofs.Sections.{lines-length, properties-fit}
 
 -- a line, and lines

@@ -1,7 +1,5 @@
 -- Any two outcomes that a contract of this crate allows for the same arguments are equal: the answer, and each lent word. Assumes nothing.
-use Prim.Native.Nat.{ℕ}
-use mathlib.Core.Path.{_≡_, sym, ap, _∙_}
-use mathlib.Core.List.{List}
+use mathlib.Core.Path.{sym, ap, _∙_}
 use denote.Ref.{now}
 use Rattle.promise.specs.Determined.{Determines, DeterminesCells}
 use Rattle.lines.specs.Sections.{Roots, rootsOf}
@@ -24,5 +22,6 @@ one-latches κs a x y e f p q = (p .0 ∙ sym (q .0), p .1 ∙ sym (q .1))
 pub one-read-header : Determines 1 header-kinds.ps header-kinds.r header-contract.Learnt
 one-read-header κs a x y e f p q = p ∙ sym q
 
-pub one-roots : DeterminesCells 3 roots-kinds.ps roots-kinds.r roots-contract.Learnt {A = Roots} (λ κs e. rootsOf (now (e .1 .1 .1 .1 .0)) (now (e .1 .1 .1 .1 .1 .0)))
+pub one-roots : DeterminesCells 3 roots-kinds.ps roots-kinds.r roots-contract.Learnt {A = Roots}
+    (λ κs e. rootsOf (now (e .1 .1 .1 .1 .0)) (now (e .1 .1 .1 .1 .1 .0)))
 one-roots κs a x y e f p q = (ap (λ (o : Left). o .answer) (p ∙ sym q), ap (λ (o : Left). o .lists) (p ∙ sym q))

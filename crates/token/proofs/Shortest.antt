@@ -10,7 +10,7 @@ use lib.Dec.{ltb, leb}
 use lib.ListN.{length, getD, take, drop, length-append, length-take, length-drop}
 use lib.Seq.{drop-append-seam, take-append-add, take-at, take-take, getD-drop}
 use borrow.Author.Tests.{ltb-true, ltb-false, leb-true, leb-false, lt-leb, le-leb}
-use Rattle.token.specs.Format.{leading, goesOn, groupsValue, groupsUpTo, shortest, Grouped, final, group}
+use Rattle.token.specs.Format.{leading, goesOn, groupsValue, groupsUpTo, shortest, Grouped, final, group, Bytes}
 use Rattle.token.specs.Answer.{goOnAt, binaryOf, binaryAt, deltaAt, pairAt}
 use Rattle.token.specs.declared.Token.the-variants.{Value}
 use Rattle.token.specs.declared.PairToken.the-variants.{Inputs}
@@ -128,10 +128,6 @@ groups-only (suc k) (group {b} {bs} on small g) few same =
     suc-same e = omega arith
 
 -- the bytes of a number that is read
-
--- every byte is one
-abbrev pub Bytes : List ℕ → Type 0
-Bytes s = (i : ℕ) → getD s i 0 < 256
 
 bytes-take : (n : ℕ) (l : List ℕ) → Bytes l → Bytes (take n l)
 bytes-take zero l h i = omega arith

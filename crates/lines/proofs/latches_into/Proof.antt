@@ -1,17 +1,12 @@
 -- `lines::latches_into` meets its contract: a turn of the loop stores one line more (`Storing`). Assumes nothing.
-use Prim.Native.Nat.{_+_, _-_}
+use Prim.Native.Nat.{_-_}
 use Rattle.lines.proofs.Answers.{is-got, not-no}
 use Rattle.lines.proofs.Rows.{Storing, storing-none, storing-more, storing-broken, storing-all, storing-keeps}
-use Rattle.lines.proofs.latch.Reads as latch-reads
-use Rattle.lines.proofs.latches_into.Lts as lts
-use Rattle.lines.proofs.latches_into.Reads as reads
 use Rattle.lines.proofs.latches_into.Statement.{statement}
 use Rattle.lines.proofs.latches_into.Tie as tie
-use Rattle.lent.proofs.words.store.Reads as store-reads
 use Rattle.lines.specs.Lines.{latchAt, latchesAt}
 use borrow.Author.Needs.{needs}
-use denote.Ref.{now}
-use mathlib.Core.Path.{refl, sym, ap, _∙_}
+use mathlib.Core.Path.{sym, _∙_}
 use native.Mathlib.Omega.{arith}
 
 abbrev Inv-loop : tie.InvT-loop
@@ -40,38 +35,39 @@ loop-less c = search needs
 
 loop-again : tie.Need-loop-again Inv-loop μ-loop
 loop-again c =
-    let loop = c .before .before .before .before .before .before .before .before .before .loop in
-    let latch = c .before .before .before .before .before .before .before .latch in
-    let line = c .before .before .before .before .before .line in
-    let store = c .before .before .store in
-    storing-more (loop .inv) _ _ _ (loop .i) (omega arith) (omega arith) (is-got _ _ _ (sym (latch .ensures) ∙ line .given .1)) (store .ensures)
+    let storeAt = c .before .before in
+    let lineAt = storeAt .before .before .before in
+    let latchAt = lineAt .before .before in
+    let loopAt = latchAt .before .before in
+    storing-more (loopAt .loop .inv) _ _ _ (loopAt .loop .i) (omega arith) (omega arith)
+    (is-got _ _ _ (sym (latchAt .latch .ensures) ∙ lineAt .line .given .1)) (storeAt .store .ensures)
 
 enum-known-line-2 : tie.Need-enum-known-line-2 Inv-loop μ-loop
 enum-known-line-2 c = search needs
 
 same-length : tie.Need-same-length Inv-loop μ-loop
 same-length c =
-    let loop = c .before .before .before .before .before .loop in
-    storing-keeps (loop .inv)
+    let loopAt = c .before .before .before .before .before in
+    storing-keeps (loopAt .loop .inv)
 
 returns : tie.Need-returns Inv-loop μ-loop
 unfolding latchesAt
 returns c =
-    let loop = c .before .before .before .before .before .loop in
-    let latch = c .before .before .before .latch in
-    let line2 = c .before .line2 in
-    storing-broken (loop .inv) _ _ (omega arith) (not-no _ _ _ (sym (latch .ensures) ∙ line2 .given .1))
+    let line2At = c .before in
+    let latchAt = line2At .before .before in
+    let loopAt = latchAt .before .before in
+    storing-broken (loopAt .loop .inv) _ _ (omega arith) (not-no _ _ _ (sym (latchAt .latch .ensures) ∙ line2At .line2 .given .1))
 
 same-length-2 : tie.Need-same-length-2 Inv-loop μ-loop
 same-length-2 c =
-    let loop = c .before .loop in
-    storing-keeps (loop .inv)
+    let loopAt = c .before in
+    storing-keeps (loopAt .loop .inv)
 
 returns-2 : tie.Need-returns-2 Inv-loop μ-loop
 unfolding latchesAt
 returns-2 c =
-    let loop = c .before .loop in
-    storing-all (loop .inv) (omega arith)
+    let loopAt = c .before in
+    storing-all (loopAt .loop .inv) (omega arith)
 
 pub latches-into-spec : {M : Type 1} → statement M
 latches-into-spec =

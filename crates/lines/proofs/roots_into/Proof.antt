@@ -5,11 +5,6 @@ use Rattle.lines.proofs.Sections.{roots-broken, roots-is}
 use borrow.Author.Needs.{needs}
 use Rattle.lines.proofs.roots_into.Statement.{statement}
 use Rattle.lines.proofs.roots_into.Tie as tie
-use Rattle.lines.proofs.roots_into.Reads as reads
-use Rattle.lines.proofs.roots_into.Lts as lts
-use Rattle.lines.proofs.first_roots.Reads as first-roots-reads
-use Rattle.lines.proofs.lines.Reads as lines-reads
-use Rattle.lines.proofs.sizes_and.Reads as sizes-and-reads
 
 first-roots-requires : tie.Need-first-roots-requires
 first-roots-requires c κs = search needs

@@ -8,11 +8,6 @@ use Rattle.lines.proofs.Answers.{is-got, not-no}
 use Rattle.lines.proofs.Loops.{Sizing, sizing-none, sizing-more, sizing-broken, sizing-all, sizing-keeps}
 use Rattle.lines.proofs.sizes_into.Statement.{statement}
 use Rattle.lines.proofs.sizes_into.Tie as tie
-use Rattle.lines.proofs.sizes_into.Reads as reads
-use Rattle.lines.proofs.sizes_into.Lts as lts
-use Rattle.lent.proofs.words.store.Reads as store-reads
-use Rattle.lines.proofs.line.Reads as line-reads
-use Rattle.lines.proofs.sum.Reads as sum-reads
 
 abbrev Inv-loop : tie.InvT-loop
 Inv-loop s at n list₀ i₀ here₀ so-far₀ list i here so-far = Sizing s n at list₀ list i here so-far
