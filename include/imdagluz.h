@@ -171,10 +171,11 @@ uint32_t imdagluz_renumber(uint32_t top, const uint32_t *counts, size_t counts_l
  * Lists of IMDAGLUZ_LIST words, for gates twice that, are long enough for every file: with such lists refusal 3 is not given, so that nobody has to measure a
  * file before it is read.
  *
- * Answers 0 on success. Then the lists hold an ordered circuit, whose inputs have the codes 2, 4, .., 2I, whose latch states go on from there, and whose gate k,
- * counted from 0, has the code 2(I+L+1+k):
- *   answer  0: how many bytes the file took, to the last gate, at most length. 1: M, which is I+L+A. 2: I. 3: L. 4: A. 5 to 9: how many roots are outputs, bad states,
- *           constraints, fairness and justice literals, in this order; they add up to R, at most 1,048,575. 10: J, the number of justice sets
+ * Answers 0 on success. Then the lists hold an ordered circuit, whose inputs have the codes 2, 4, .., 2I, whose latch states go on from there, and whose
+ * gate k, counted from 0, has the code 2(I+L+1+k):
+ *   answer  0: how many bytes the file took, to the last gate, at most length. 1: M, which is I+L+A. 2: I. 3: L. 4: A. 5 to 9: how many roots are
+ *           outputs, bad states, constraints, fairness and justice literals, in this order; they add up to R, at most 1,048,575. 10: J, the number of
+ *           justice sets
  *   nexts   the next states of the latches, in their order
  *   gates   of each gate the larger and then the smaller input: its code less the first delta, and that less the second. A first delta of 0 is taken, and
  *           gives a gate that needs itself: imdagluz_renumber refuses that with 8 where it walks the gate
@@ -182,15 +183,15 @@ uint32_t imdagluz_renumber(uint32_t top, const uint32_t *counts, size_t counts_l
  *   roots   outputs, bad states, constraints, fairness, justice, in this order, which is that of imdagluz_renumber: the file has justice before fairness.
  * Words past those named stay as they were. imdagluz_expand makes the lists that imdagluz_renumber takes.
  *
- * Or answers a refusal: the first thing wrong on the way through the file, with its place in answer[0] and 0 in answer[1] to answer[10]. A place is a count of
- * bytes from the first, at most length. Before anything is read:
+ * Or answers a refusal: the first thing wrong on the way through the file, with its place in answer[0] and 0 in answer[1] to answer[10]. A place is a
+ * count of bytes from the first, at most length. Before anything is read:
  *   3   answer_length is below 11; this one writes nothing at all, to no list
  * In the header:
  *   18  the file does not begin with the three bytes aig: place 0
  *   18  no space stands before one of the first five counts, neither a space nor a newline after A, B, C or J, or no newline after F: that byte. A carriage
  *       return is no newline
- *   10, 11, 12  of a count, at its first byte: no digit stands there; it has two or more digits and begins with 0; it is over its limit, which is 1,048,575 for
- *       M, O, B, C, J and F, M for I, M-I for L, M-I-L for A
+ *   10, 11, 12  of a count, at its first byte: no digit stands there; it has two or more digits and begins with 0; it is over its limit, which is
+ *       1,048,575 for M, O, B, C, J and F, M for I, M-I for L, M-I-L for A
  * At the byte after the header's newline:
  *   19  M is above I+L+A
  *   3   nexts is shorter than L, gates than 2A, or sizes than J

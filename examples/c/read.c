@@ -49,7 +49,8 @@ static int renumber(const uint8_t *bytes, size_t length) {
     }
 
     size_t scratch_words = 3 * (size_t)top + 3 + 3 * (size_t)made;
-    uint32_t *map = lend(top + 1), *next_images = lend(latches), *root_images = lend(count), *gates_out = lend(2 * (size_t)made), *scratch = lend(scratch_words);
+    uint32_t *map = lend(top + 1), *next_images = lend(latches), *root_images = lend(count), *gates_out = lend(2 * (size_t)made);
+    uint32_t *scratch = lend(scratch_words);
     uint32_t answer[3];
     refused = imdagluz_renumber(top, counts, 5, IMDAGLUZ_TRIM | IMDAGLUZ_HASH | IMDAGLUZ_FOLD, input_codes, inputs, state_codes, latches, nexts, latches,
                                 triples, 3 * (size_t)made, roots, count, map, top + 1, next_images, latches, root_images, count, gates_out, 2 * (size_t)made,
@@ -58,7 +59,8 @@ static int renumber(const uint8_t *bytes, size_t length) {
     else {
         printf("renumbered with trim, hash and fold: gates %" PRIu32 ", largest variable %" PRIu32 "\n", answer[1], answer[2]);
         if (count > 0) printf("the first root is %" PRIu32 ", the last %" PRIu32 "\n", root_images[0], root_images[count - 1]);
-        if (answer[1] > 0) printf("the last gate is %" PRIu32 " = %" PRIu32 " & %" PRIu32 "\n", 2 * answer[2], gates_out[2 * answer[1] - 2], gates_out[2 * answer[1] - 1]);
+        uint32_t last = 2 * answer[1];
+        if (last > 0) printf("the last gate is %" PRIu32 " = %" PRIu32 " & %" PRIu32 "\n", 2 * answer[2], gates_out[last - 2], gates_out[last - 1]);
     }
     uint32_t *lent[] = {nexts, gates, sizes, roots, input_codes, state_codes, triples, map, next_images, root_images, gates_out, scratch};
     for (size_t i = 0; i < sizeof lent / sizeof lent[0]; i++) free(lent[i]);

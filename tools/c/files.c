@@ -1,6 +1,6 @@
-/* Has imdagluz_read_aig and imdagluz_expand take and refuse files and circuits as the header says: the table of files with its answers, a small file cut at each
- * of its bytes, a list one word short for each list, lists of the limits, and each refusal of imdagluz_expand. Every list is longer than it is lent for, and every
- * word of it is compared afterwards. Exit status: 0 when all are as promised and the line that says so was written, else 1. */
+/* Has imdagluz_read_aig and imdagluz_expand take and refuse files and circuits as the header says: the table of files with its answers, a small file cut at
+ * each of its bytes, a list one word short for each list, lists of the limits, and each refusal of imdagluz_expand. Every list is longer than it is lent
+ * for, and every word of it is compared afterwards. Exit status: 0 when all are as promised and the line that says so was written, else 1. */
 #include "imdagluz.h"
 #include <inttypes.h>
 #include <stdio.h>
@@ -64,7 +64,7 @@ static void takes(const char *what, const uint8_t *bytes, size_t length, const s
 
 static const size_t some[LISTS] = {8, 8, 8, 8}, most[LISTS] = {IMDAGLUZ_LIST, 2 * IMDAGLUZ_LIST, IMDAGLUZ_LIST, IMDAGLUZ_LIST};
 
-/* The table of files: what each is answered. A file that is taken names the bytes it takes; the row with 1048575 justice literals needs a root list that long. */
+/* The table of files: what each is answered. A file that is taken names the bytes it takes; the row with 1048575 justice literals needs that many roots. */
 #define FILE_OF(text) text, sizeof text - 1
 static const struct row { const char *file; size_t length; uint32_t number; uint64_t place; } table[] = {
     {FILE_OF(""), 18, 0},
