@@ -64,7 +64,8 @@ pub fn of_sizes(random: &mut Random, sizes: Sizes) -> Parts {
     let mut header = vec!["aig".to_string()];
     header.extend(numbers.iter().map(u64::to_string));
     let codes = 2 * numbers[0] + 2;
-    let mut lines: Vec<String> = (0..sizes.latches).map(|index| latch(random, codes, 2 * (sizes.inputs + 1 + index))).collect();
+    let judged = random.percent(90);
+    let mut lines: Vec<String> = (0..sizes.latches).map(|index| latch(random, codes, 2 * (sizes.inputs + 1 + index), judged)).collect();
     let [outputs, bad, constraints, sets, fairness] = sizes.roots;
     let mut literals = |count: u64, random: &mut Random| lines.extend((0..count).map(|_| random.below(codes).to_string()));
     literals(outputs + bad + constraints, random);
@@ -79,15 +80,15 @@ pub fn of_sizes(random: &mut Random, sizes: Sizes) -> Parts {
     Parts { header, lines, gates, after: vec![] }
 }
 
-/// A latch's line, in half of them with a reset, a few of which no reader takes that looks at it.
-fn latch(random: &mut Random, codes: u64, own: u64) -> String {
+/// A latch's line, in half of them with a reset; one that is not judged may be any literal.
+fn latch(random: &mut Random, codes: u64, own: u64, judged: bool) -> String {
     let next = random.below(codes);
-    match random.below(40) {
-        0..=17 => next.to_string(),
-        18..=24 => format!("{next} 0"),
-        25..=31 => format!("{next} 1"),
-        32..=38 => format!("{next} {own}"),
-        _ => format!("{next} {}", random.below(codes)),
+    match random.below(8) {
+        0..=3 => next.to_string(),
+        4 => format!("{next} 0"),
+        5 => format!("{next} 1"),
+        6 if !judged => format!("{next} {}", random.below(codes)),
+        _ => format!("{next} {own}"),
     }
 }
 
