@@ -7,7 +7,9 @@ use crate::{
 use judge::{
     circuit::Circuit,
     file_compare::{compare, shown, Compared},
-    file_crate, file_kinds, file_shrink,
+    file_crate,
+    file_examples::CASES,
+    file_kinds, file_shrink,
     file_words::{needed, read, Line, Ordered, Room, Rules, AMPLE, LIMIT},
     hex,
     random::Random,
@@ -30,6 +32,7 @@ enum Asked {
 }
 
 const MOST: usize = 20_000;
+const EXACT: Spare = Spare { words: [0; 5], asked: Asked::Near };
 const NEVER_SHORT: Room = [LIMIT as usize, 2 * LIMIT as usize, LIMIT as usize, LIMIT as usize];
 
 /// Files longer than this are read and expanded, and not renumbered.
@@ -213,26 +216,32 @@ pub fn random(tally: &mut Tally, mut random: Random, count: u64, gates: u64) {
     }
 }
 
-/// Every small file of some forms: short endings of each section, and every shape of header, cut at each byte; each list one word short, and longer.
+/// Every small file of some forms: the documents' cases, short endings of each section, and every shape of header, cut at each byte.
 pub fn small(tally: &mut Tally) {
-    let exact = Spare { words: [0; 5], asked: Asked::Near };
-    file_kinds::short(6, 5, |bytes| tally.compare(bytes, exact));
-    file_kinds::shapes(&mut Random(1), |bytes| {
-        tally.compare(bytes, exact);
-        tally.compare(bytes, Spare { words: [3, 2, 1, 2, 1], ..exact });
-        for list in 0..5 {
-            let mut words = [0; 5];
-            words[list] = -1;
-            tally.compare(bytes, Spare { words, ..exact });
-        }
-    });
+    file_kinds::short(6, 5, |bytes| tally.compare(bytes, EXACT));
+    file_kinds::shapes(&mut Random(1), |bytes| in_every_length(tally, bytes));
+    for (bytes, ..) in CASES {
+        in_every_length(tally, bytes);
+        tally.compare(bytes, Spare { asked: Asked::Never, ..EXACT });
+    }
+}
+
+/// A file in lists that are as long as they must be, in longer ones, and with each of them one word short.
+fn in_every_length(tally: &mut Tally, bytes: &[u8]) {
+    tally.compare(bytes, EXACT);
+    tally.compare(bytes, Spare { words: [3, 2, 1, 2, 1], ..EXACT });
+    for list in 0..5 {
+        let mut words = [0; 5];
+        words[list] = -1;
+        tally.compare(bytes, Spare { words, ..EXACT });
+    }
 }
 
 /// Files at the limits, with lists that are never too short, with just those that they ask for, and with a root list one word short.
 pub fn large(tally: &mut Tally) {
     file_kinds::large(&mut Random(1), |bytes| {
-        tally.compare(bytes, Spare { words: [0; 5], asked: Asked::Never });
-        tally.compare(bytes, Spare { words: [0; 5], asked: Asked::All });
+        tally.compare(bytes, Spare { asked: Asked::Never, ..EXACT });
+        tally.compare(bytes, Spare { asked: Asked::All, ..EXACT });
         tally.compare(bytes, Spare { words: [0, 0, 0, -1, 0], asked: Asked::All });
     });
 }

@@ -132,7 +132,7 @@ const FAULTS: [(u64, Fault); 16] = [
     (10, |random, parts| *a_number(random, parts) = random.pick(&EDGES).to_string()),
     (10, |random, parts| {
         // one more, one less, or next to the largest literal
-        let largest = 2 * parts.header[1].parse::<u64>().unwrap_or(0) + 1;
+        let largest = 2 * parts.header[1].parse::<u32>().map_or(0, u64::from) + 1;
         let near = random.pick(&[largest, largest + 1]);
         let word = a_number(random, parts);
         let value = word.parse::<u64>().unwrap_or(near);
@@ -144,7 +144,7 @@ const FAULTS: [(u64, Fault); 16] = [
     (2, |random, parts| a_number(random, parts).insert_str(0, random.pick(&[" ", "+", "-", "\n", "\r"]))),
     (6, |random, parts| {
         // more variables than are defined
-        let top = parts.header[1].parse::<u64>().unwrap_or(0);
+        let top = parts.header[1].parse::<u32>().map_or(0, u64::from);
         parts.header[1] = (top + random.between(1, 3)).to_string();
     }),
     (3, |random, parts| {
@@ -166,7 +166,7 @@ const FAULTS: [(u64, Fault); 16] = [
     }),
     (4, |random, parts| {
         // a justice size with which the roots come to the limit, or just over it
-        let count = |index: usize| parts.header.get(index).and_then(|word| word.parse::<usize>().ok()).unwrap_or(0);
+        let count = |index: usize| parts.header.get(index).and_then(|word| word.parse::<u32>().ok()).unwrap_or(0) as usize;
         let (first, fairness, sets) = (count(4) + count(6) + count(7), count(9), count(8));
         if sets > 0 && parts.lines.len() > count(3) + first {
             let rest = random.pick(&[first + fairness, first, 0]) as u64;
