@@ -24,7 +24,8 @@ use Rattle.lines.specs.declared.Header.{Header}
 use Rattle.lines.specs.Reading.{Read, got, no, _▸_, rowAt}
 use Rattle.lines.specs.Lines.{isByte, byteAt, spaceAt, newlineAt, begins, tagAt, numberOf, numberAt, lineAt, linesAt, resetAt, latchAt, latchesAt}
 use Rattle.lines.specs.Sections.{countAt, optionsAt, headerOf, othersAt, countsAt, headerAt, topCode, firstRoots, rootCount, rootRoomAt, propertiesAt, sizesAt, rootsOf, rootsAt}
-use Rattle.token.proofs.Refusals.{NamesPlace, RefusedDelta, first, second, header-field-place}
+use Rattle.token.specs.Claims.{NamesPlace, RefusedDelta, first, second}
+use Rattle.token.proofs.Refusals.{header-field-place}
 use Rattle.token.proofs.Theorems.{delta-uses, pair-uses, pair-names-the-delta}
 use Rattle.lines.proofs.Answers.{number-held}
 use Rattle.binary.specs.File.{tag, Room, gateOf, gateAt, gatesAt, fileWith, sizedAt, listsAt, bodyAt, readFile}
