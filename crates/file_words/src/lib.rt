@@ -3,7 +3,7 @@ ghost use mathlib.Core.Path.{_≡_};
 ghost use Prim.Native.Nat.{_≤_};
 ghost use lib.ListN.{length};
 ghost use Rattle.circuit.specs.Outcome.{onto};
-ghost use Rattle.lines.specs.Promise.{Counted};
+ghost use Rattle.lent.specs.Counted.{Counted};
 ghost use Rattle.file_words.specs.Read.{fileNumber, firstWord, answerWords, fileSeen, readSeen};
 use binary::FileAnswer;
 use binary::FileRead;

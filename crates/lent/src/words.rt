@@ -2,6 +2,7 @@
 ghost use mathlib.Core.Path.{_≡_};
 ghost use lib.ListN.{length, replicate, set};
 ghost use Rattle.lit.specs.Code.{var};
+ghost use Rattle.lent.specs.Counted.{Counted};
 ghost use Rattle.circuit.specs.Outcome.{onto};
 use lit::Lit;
 
@@ -10,6 +11,13 @@ pub fn wide(x: u32) -> usize
     ensures { λ r. ⌜ r ≡ x ⌝ }
 {
     x as usize
+}
+
+// The same, known to be a word's: a few of them can't overflow a sum.
+pub fn counted(word: u32) -> usize
+    ensures { λ r. ⌜ Counted word r ⌝ }
+{
+    word as usize
 }
 
 // The place of a literal's variable in a table that has a word for each variable.

@@ -108,9 +108,9 @@ returns c =
     let entry = firstWordAt .before .before .before in
     let a = entry .args in
     let countsFive = length-unmapped ℕ (a .said .counts) 5 (entry .good .0 .1 .1 .1 .1 .1 .1 .0 .1 .0 .1) in
-    words-put (a .said) (a .answer .now) (entry .pre) countsFive (firstWordAt .first-word .ensures) (wordAt .word .ensures .0)
-    (word2At .word2 .ensures .0) (word3At .word3 .ensures .0) (word4At .word4 .ensures .0) (word5At .word5 .ensures .0)
-    (word6At .word6 .ensures .0) (word7At .word7 .ensures .0) (word8At .word8 .ensures .0) (c .word9 .ensures .0)
+    words-put (a .said) (a .answer .now) (entry .pre) countsFive (firstWordAt .first-word .ensures) (wordAt .word .ensures .same)
+    (word2At .word2 .ensures .same) (word3At .word3 .ensures .same) (word4At .word4 .ensures .same) (word5At .word5 .ensures .same)
+    (word6At .word6 .ensures .same) (word7At .word7 .ensures .same) (word8At .word8 .ensures .same) (c .word9 .ensures .same)
 
 pub put-words-spec : {M : Type 1} → statement M
 put-words-spec =
