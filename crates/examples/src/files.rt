@@ -49,8 +49,7 @@ fn just(file: &[u8]) {
     let mut gates = [77u32; 4];
     let mut sizes = [77u32; 2];
     let mut roots = [77u32; 7];
-    read(file, &mut nexts, &mut gates, &mut sizes, &mut roots);
-    wholes(&nexts, &gates, &sizes, &roots);
+    whole(file, &mut nexts, &mut gates, &mut sizes, &mut roots);
 }
 
 fn longer(file: &[u8]) {
@@ -58,8 +57,7 @@ fn longer(file: &[u8]) {
     let mut gates = [77u32; 6];
     let mut sizes = [77u32; 3];
     let mut roots = [77u32; 8];
-    read(file, &mut nexts, &mut gates, &mut sizes, &mut roots);
-    wholes(&nexts, &gates, &sizes, &roots);
+    whole(file, &mut nexts, &mut gates, &mut sizes, &mut roots);
 }
 
 fn short_nexts(file: &[u8]) {
@@ -67,8 +65,7 @@ fn short_nexts(file: &[u8]) {
     let mut gates = [77u32; 4];
     let mut sizes = [77u32; 2];
     let mut roots = [77u32; 7];
-    read(file, &mut nexts, &mut gates, &mut sizes, &mut roots);
-    wholes(&nexts, &gates, &sizes, &roots);
+    whole(file, &mut nexts, &mut gates, &mut sizes, &mut roots);
 }
 
 fn short_gates(file: &[u8]) {
@@ -76,8 +73,7 @@ fn short_gates(file: &[u8]) {
     let mut gates = [77u32; 3];
     let mut sizes = [77u32; 2];
     let mut roots = [77u32; 7];
-    read(file, &mut nexts, &mut gates, &mut sizes, &mut roots);
-    wholes(&nexts, &gates, &sizes, &roots);
+    whole(file, &mut nexts, &mut gates, &mut sizes, &mut roots);
 }
 
 fn short_sizes(file: &[u8]) {
@@ -85,8 +81,7 @@ fn short_sizes(file: &[u8]) {
     let mut gates = [77u32; 4];
     let mut sizes = [77u32; 1];
     let mut roots = [77u32; 7];
-    read(file, &mut nexts, &mut gates, &mut sizes, &mut roots);
-    wholes(&nexts, &gates, &sizes, &roots);
+    whole(file, &mut nexts, &mut gates, &mut sizes, &mut roots);
 }
 
 fn short_roots(file: &[u8]) {
@@ -94,8 +89,7 @@ fn short_roots(file: &[u8]) {
     let mut gates = [77u32; 4];
     let mut sizes = [77u32; 2];
     let mut roots = [77u32; 6];
-    read(file, &mut nexts, &mut gates, &mut sizes, &mut roots);
-    wholes(&nexts, &gates, &sizes, &roots);
+    whole(file, &mut nexts, &mut gates, &mut sizes, &mut roots);
 }
 
 fn short_answer(file: &[u8]) {
@@ -114,6 +108,12 @@ fn short_answer(file: &[u8]) {
     );
     said(number, &words);
     wholes(&nexts, &gates, &sizes, &roots);
+}
+
+// Reads the file, and prints the answer and every word of each list.
+fn whole(file: &[u8], nexts: &mut [u32], gates: &mut [u32], sizes: &mut [u32], roots: &mut [u32]) {
+    read(file, nexts, gates, sizes, roots);
+    wholes(nexts, gates, sizes, roots);
 }
 
 // Reads the file, prints the answer, and answers its number.
