@@ -171,8 +171,8 @@ pub headers-pinned :
     × (countsAt (120 ∷ 32 ∷ 49 ∷ 48 ∷ 52 ∷ 56 ∷ 53 ∷ 55 ∷ 54 ∷ 32 ∷ 48 ∷ 32 ∷ 48 ∷ 32 ∷ 48 ∷ 32 ∷ 48 ∷ 10 ∷ []) 1 ≡ no (Number OverLimit) 2)
     × (countsAt (120 ∷ 32 ∷ 53 ∷ 32 ∷ 53 ∷ 32 ∷ 48 ∷ 32 ∷ 48 ∷ 32 ∷ 48 ∷ 10 ∷ []) 1 ≡ got (header 5 5 0 0 0 0 0 0 0) 12)
     × (countsAt (120 ∷ 32 ∷ 53 ∷ 32 ∷ 54 ∷ 32 ∷ 48 ∷ 32 ∷ 48 ∷ 32 ∷ 48 ∷ 10 ∷ []) 1 ≡ no (Number OverLimit) 4)
-    × (countsAt (120 ∷ 32 ∷ 53 ∷ 32 ∷ 50 ∷ 32 ∷ 51 ∷ 32 ∷ 48 ∷ 32 ∷ 48 ∷ 10 ∷ []) 1 ≡ got (header 5 2 3 0 0 0 0 0 0) 12)
-    × (countsAt (120 ∷ 32 ∷ 53 ∷ 32 ∷ 50 ∷ 32 ∷ 52 ∷ 32 ∷ 48 ∷ 32 ∷ 48 ∷ 10 ∷ []) 1 ≡ no (Number OverLimit) 6)
+    × (countsAt (120 ∷ 32 ∷ 55 ∷ 32 ∷ 50 ∷ 32 ∷ 53 ∷ 32 ∷ 48 ∷ 32 ∷ 48 ∷ 10 ∷ []) 1 ≡ got (header 7 2 5 0 0 0 0 0 0) 12)
+    × (countsAt (120 ∷ 32 ∷ 55 ∷ 32 ∷ 50 ∷ 32 ∷ 54 ∷ 32 ∷ 48 ∷ 32 ∷ 48 ∷ 10 ∷ []) 1 ≡ no (Number OverLimit) 6)
     × (countsAt (120 ∷ 32 ∷ 53 ∷ 32 ∷ 49 ∷ 32 ∷ 50 ∷ 32 ∷ 48 ∷ 32 ∷ 50 ∷ 10 ∷ []) 1 ≡ got (header 5 1 2 0 2 0 0 0 0) 12)
     × (countsAt (120 ∷ 32 ∷ 53 ∷ 32 ∷ 49 ∷ 32 ∷ 50 ∷ 32 ∷ 48 ∷ 32 ∷ 51 ∷ 10 ∷ []) 1 ≡ no (Number OverLimit) 10)
     -- the whole line; the other form's tag
@@ -202,10 +202,10 @@ literals = (120 ∷ 54 ∷ 10 ∷ 49 ∷ 55 ∷ 10 ∷ 56 ∷ 10 ∷ 53 ∷ 10 �
 abbrev sets : List ℕ
 sets = (120 ∷ 50 ∷ 10 ∷ 48 ∷ 10 ∷ 50 ∷ 10 ∷ 54 ∷ 10 ∷ 55 ∷ 10 ∷ 56 ∷ 10 ∷ 53 ∷ 10 ∷ 57 ∷ 10 ∷ 52 ∷ 10 ∷ [])
 
--- x30\n31\n33\n2\n0\n2\n6\n7\n8\n5\n9\n4\n
+-- x30\n31\n33\n2\n0\n2\n6\n7\n8\n5\n29\n4\n
 abbrev section : List ℕ
 section =
-    (120 ∷ 51 ∷ 48 ∷ 10 ∷ 51 ∷ 49 ∷ 10 ∷ 51 ∷ 51 ∷ 10 ∷ 50 ∷ 10 ∷ 48 ∷ 10 ∷ 50 ∷ 10 ∷ 54 ∷ 10 ∷ 55 ∷ 10 ∷ 56 ∷ 10 ∷ 53 ∷ 10 ∷ 57 ∷ 10 ∷ 52 ∷ 10 ∷ [])
+    (120 ∷ 51 ∷ 48 ∷ 10 ∷ 51 ∷ 49 ∷ 10 ∷ 51 ∷ 51 ∷ 10 ∷ 50 ∷ 10 ∷ 48 ∷ 10 ∷ 50 ∷ 10 ∷ 54 ∷ 10 ∷ 55 ∷ 10 ∷ 56 ∷ 10 ∷ 53 ∷ 10 ∷ 50 ∷ 57 ∷ 10 ∷ 52 ∷ 10 ∷ [])
 
 pub roots-pinned :
     -- how many roots
@@ -234,8 +234,8 @@ pub roots-pinned :
     × (sizesAt (120 ∷ 49 ∷ 48 ∷ 52 ∷ 56 ∷ 53 ∷ 55 ∷ 53 ∷ 10 ∷ []) one-set 9 1048574 1 ≡ no Short 9)
     × (sizesAt (120 ∷ 49 ∷ 48 ∷ 52 ∷ 56 ∷ 53 ∷ 55 ∷ 54 ∷ 10 ∷ []) one-set 2000000 2000000 1 ≡ no (Number OverLimit) 1)
     × (sizesAt (120 ∷ 49 ∷ 48 ∷ 52 ∷ 56 ∷ 53 ∷ 55 ∷ 53 ∷ 10 ∷ 49 ∷ 10 ∷ 48 ∷ 10 ∷ []) sample 9 2000000 1 ≡ no TooMany 13)
-    -- the whole: output 30, bad state 31, constraint 33, sizes 2, 0 and 2, justice 6, 7, 8 and 5, fairness 9 and 4
-    × (rootsAt section sample 33 9 1 ≡ got (rootsOf (2 ∷ 0 ∷ 2 ∷ []) (30 ∷ 31 ∷ 33 ∷ 9 ∷ 4 ∷ 6 ∷ 7 ∷ 8 ∷ 5 ∷ [])) 28)
+    -- the whole: output 30, bad state 31, constraint 33, sizes 2, 0 and 2, justice 6, 7, 8 and 5, fairness 29 and 4
+    × (rootsAt section sample 33 9 1 ≡ got (rootsOf (2 ∷ 0 ∷ 2 ∷ []) (30 ∷ 31 ∷ 33 ∷ 29 ∷ 4 ∷ 6 ∷ 7 ∷ 8 ∷ 5 ∷ [])) 29)
     × (rootsAt section sample 33 8 1 ≡ no Short 16)
     × (rootsAt section sample 32 9 1 ≡ no (Number OverLimit) 7)
     × (rootsAt (120 ∷ 51 ∷ 48 ∷ 10 ∷ 51 ∷ 49 ∷ 10 ∷ 51 ∷ 51 ∷ 10 ∷ 50 ∷ 10 ∷ 48 ∷ 10 ∷ 50 ∷ 10 ∷ 54 ∷ 10 ∷ 55 ∷ 10 ∷ 56 ∷ 10 ∷ 53 ∷ 10 ∷ 57 ∷ 10 ∷ 51 ∷ 52 ∷
