@@ -38,11 +38,14 @@ dirty =
 abbrev words : List ℕ
 words = 51 ∷ 52 ∷ 53 ∷ 54 ∷ 55 ∷ 56 ∷ 57 ∷ 58 ∷ 59 ∷ 60 ∷ 61 ∷ 62 ∷ []
 
--- a refusal of a file in those lists: its number and its place, and nothing else but the twelfth word
+-- a refusal in lists of n, g, z and r words: its number and its place, and nothing else but the twelfth answer word
+abbrev cleared : ℕ → ℕ → ℕ → ℕ → ℕ → ℕ → Seen
+cleared n g z r number place =
+    sees number (replicate n 0) (replicate g 0) (replicate z 0) (replicate r 0) (place ∷ 0 ∷ 0 ∷ 0 ∷ 0 ∷ 0 ∷ 0 ∷ 0 ∷ 0 ∷ 0 ∷ 0 ∷ 62 ∷ [])
+
+-- the same in the dirty ones
 abbrev refused : ℕ → ℕ → Seen
-refused number place =
-    sees number (replicate 2 0) (replicate 6 0) (replicate 2 0) (replicate 8 0)
-    (place ∷ 0 ∷ 0 ∷ 0 ∷ 0 ∷ 0 ∷ 0 ∷ 0 ∷ 0 ∷ 0 ∷ 0 ∷ 62 ∷ [])
+refused number place = cleared 2 6 2 8 number place
 
 -- ten answer words, and what is seen of the dirty lists where nothing is written
 abbrev ten : List ℕ
@@ -54,14 +57,15 @@ untouched number left = sees number (dirty .nexts) (dirty .gates) (dirty .sizes)
 -- a file that is taken: all but its reset is there, fairness before justice, and 46 bytes are used
 pub taken-pinned :
     -- in lists that are longer, whose other words stay
-    (readSeen small dirty words ≡ sees 0 (8 ∷ 22 ∷ []) (6 ∷ 2 ∷ 8 ∷ 3 ∷ 27 ∷ 28 ∷ []) (2 ∷ 32 ∷ []) (10 ∷ 9 ∷ 3 ∷ 7 ∷ 6 ∷ 11 ∷ 47 ∷ 48 ∷ []) (46 ∷ 5 ∷ 2 ∷
-    1 ∷ 2 ∷ 1 ∷ 1 ∷ 1 ∷ 1 ∷ 2 ∷ 1 ∷ 62 ∷ []))
+    (readSeen small dirty words
+    ≡ sees 0 (8 ∷ 22 ∷ []) (6 ∷ 2 ∷ 8 ∷ 3 ∷ 27 ∷ 28 ∷ []) (2 ∷ 32 ∷ []) (10 ∷ 9 ∷ 3 ∷ 7 ∷ 6 ∷ 11 ∷ 47 ∷ 48 ∷ []) (46 ∷ 5 ∷ 2 ∷ 1 ∷ 2 ∷ 1 ∷ 1 ∷ 1 ∷ 1 ∷ 2 ∷
+    1 ∷ 62 ∷ []))
     -- in lists that are just long enough
-    × (readSeen small (lists (9 ∷ []) (9 ∷ 9 ∷ 9 ∷ 9 ∷ []) (9 ∷ []) (9 ∷ 9 ∷ 9 ∷ 9 ∷ 9 ∷ 9 ∷ [])) (replicate 11 9) ≡ sees 0 (8 ∷ []) (6 ∷ 2 ∷ 8 ∷ 3 ∷
-    []) (2 ∷ []) (10 ∷ 9 ∷ 3 ∷ 7 ∷ 6 ∷ 11 ∷ []) (46 ∷ 5 ∷ 2 ∷ 1 ∷ 2 ∷ 1 ∷ 1 ∷ 1 ∷ 1 ∷ 2 ∷ 1 ∷ []))
+    × (readSeen small (lists (9 ∷ []) (9 ∷ 9 ∷ 9 ∷ 9 ∷ []) (9 ∷ []) (9 ∷ 9 ∷ 9 ∷ 9 ∷ 9 ∷ 9 ∷ [])) (replicate 11 9)
+    ≡ sees 0 (8 ∷ []) (6 ∷ 2 ∷ 8 ∷ 3 ∷ []) (2 ∷ []) (10 ∷ 9 ∷ 3 ∷ 7 ∷ 6 ∷ 11 ∷ []) (46 ∷ 5 ∷ 2 ∷ 1 ∷ 2 ∷ 1 ∷ 1 ∷ 1 ∷ 1 ∷ 2 ∷ 1 ∷ []))
     -- the empty circuit, and a byte after it: the file ends before that byte
-    × (readSeen (97 ∷ 105 ∷ 103 ∷ 32 ∷ 48 ∷ 32 ∷ 48 ∷ 32 ∷ 48 ∷ 32 ∷ 48 ∷ 32 ∷ 48 ∷ 10 ∷ 0 ∷
-    []) dirty words ≡ sees 0 (dirty .nexts) (dirty .gates) (dirty .sizes) (dirty .roots) (14 ∷ 0 ∷ 0 ∷ 0 ∷ 0 ∷ 0 ∷ 0 ∷ 0 ∷ 0 ∷ 0 ∷ 0 ∷ 62 ∷ []))
+    × (readSeen (97 ∷ 105 ∷ 103 ∷ 32 ∷ 48 ∷ 32 ∷ 48 ∷ 32 ∷ 48 ∷ 32 ∷ 48 ∷ 32 ∷ 48 ∷ 10 ∷ 0 ∷ []) dirty words
+    ≡ sees 0 (dirty .nexts) (dirty .gates) (dirty .sizes) (dirty .roots) (14 ∷ 0 ∷ 0 ∷ 0 ∷ 0 ∷ 0 ∷ 0 ∷ 0 ∷ 0 ∷ 0 ∷ 0 ∷ 62 ∷ []))
 unfolding readSeen digitsOf digitsAt uintAt goOnAt binaryAt deltaAt headerFieldAt pairAt firstCode isByte byteAt tagAt numberAt lineAt linesAt resetAt
     latchAt latchesAt countAt othersAt countsAt headerAt rootRoomAt propertiesAt sizesAt rootsAt gateAt gatesAt sizedAt listsAt bodyAt readFile
 taken-pinned = (refl, refl, refl)
@@ -82,12 +86,14 @@ pub refusals-pinned :
     × (readSeen (97 ∷ 105 ∷ 103 ∷ 32 ∷ 51 ∷ 32 ∷ 49 ∷ 32 ∷ 48 ∷ 32 ∷ 48 ∷ 32 ∷ 49 ∷ 10 ∷ []) dirty words ≡ refused 19 14)
     -- two justice sizes that sum to 1048576
     × (readSeen (97 ∷ 105 ∷ 103 ∷ 32 ∷ 48 ∷ 32 ∷ 48 ∷ 32 ∷ 48 ∷ 32 ∷ 48 ∷ 32 ∷ 48 ∷ 32 ∷ 48 ∷ 32 ∷ 48 ∷ 32 ∷ 50 ∷ 10 ∷ 49 ∷ 48 ∷ 52 ∷ 56 ∷ 53 ∷ 55 ∷ 53 ∷
-    10 ∷ 49 ∷ 10 ∷ []) dirty words ≡ refused 1 30)
+    10 ∷ 49 ∷ 10 ∷ []) dirty words
+    ≡ refused 1 30)
     -- a gate cut after its first delta
     × (readSeen (97 ∷ 105 ∷ 103 ∷ 32 ∷ 51 ∷ 32 ∷ 50 ∷ 32 ∷ 48 ∷ 32 ∷ 49 ∷ 32 ∷ 49 ∷ 10 ∷ 54 ∷ 10 ∷ 0 ∷ []) dirty words ≡ refused 15 17)
     -- a delta of nine bytes
     × (readSeen (97 ∷ 105 ∷ 103 ∷ 32 ∷ 51 ∷ 32 ∷ 50 ∷ 32 ∷ 48 ∷ 32 ∷ 49 ∷ 32 ∷ 49 ∷ 10 ∷ 54 ∷ 10 ∷ 128 ∷ 128 ∷ 128 ∷ 128 ∷ 128 ∷ 128 ∷ 128 ∷ 128 ∷ 0 ∷
-    []) dirty words ≡ refused 16 16)
+    []) dirty words
+    ≡ refused 16 16)
     -- a second delta above the first input
     × (readSeen (97 ∷ 105 ∷ 103 ∷ 32 ∷ 51 ∷ 32 ∷ 50 ∷ 32 ∷ 48 ∷ 32 ∷ 49 ∷ 32 ∷ 49 ∷ 10 ∷ 54 ∷ 10 ∷ 0 ∷ 7 ∷ []) dirty words ≡ refused 17 17)
     -- a carriage return for a newline
@@ -99,24 +105,19 @@ refusals-pinned = (refl, refl, refl, refl, refl, refl, refl, refl, refl, refl, r
 -- a list a word too short, and what comes before
 pub rooms-pinned :
     -- no word for the next state
-    (readSeen small (lists [] (dirty .gates) (dirty .sizes) (dirty .roots)) words ≡ sees 3 [] (replicate 6 0) (replicate 2 0) (replicate 8 0) (22 ∷ 0 ∷
-    0 ∷ 0 ∷ 0 ∷ 0 ∷ 0 ∷ 0 ∷ 0 ∷ 0 ∷ 0 ∷ 62 ∷ []))
+    (readSeen small (lists [] (dirty .gates) (dirty .sizes) (dirty .roots)) words ≡ cleared 0 6 2 8 3 22)
     -- three words for two gates
-    × (readSeen small (lists (dirty .nexts) (23 ∷ 24 ∷ 25 ∷
-    []) (dirty .sizes) (dirty .roots)) words ≡ sees 3 (replicate 2 0) (replicate 3 0) (replicate 2 0) (replicate 8 0) (22 ∷ 0 ∷ 0 ∷ 0 ∷ 0 ∷ 0 ∷ 0 ∷ 0 ∷
-    0 ∷ 0 ∷ 0 ∷ 62 ∷ []))
+    × (readSeen small (lists (dirty .nexts) (23 ∷ 24 ∷ 25 ∷ []) (dirty .sizes) (dirty .roots)) words ≡ cleared 2 3 2 8 3 22)
     -- no word for the size
-    × (readSeen small (lists (dirty .nexts) (dirty .gates) [] (dirty .roots)) words ≡ sees 3 (replicate 2 0) (replicate 6 0) [] (replicate 8 0) (22 ∷ 0 ∷
-    0 ∷ 0 ∷ 0 ∷ 0 ∷ 0 ∷ 0 ∷ 0 ∷ 0 ∷ 0 ∷ 62 ∷ []))
+    × (readSeen small (lists (dirty .nexts) (dirty .gates) [] (dirty .roots)) words ≡ cleared 2 6 0 8 3 22)
     -- five words for six roots: told where the sizes end
-    × (readSeen small (lists (dirty .nexts) (dirty .gates) (dirty .sizes) (41 ∷ 42 ∷ 43 ∷ 44 ∷ 45 ∷
-    [])) words ≡ sees 3 (replicate 2 0) (replicate 6 0) (replicate 2 0) (replicate 5 0) (35 ∷ 0 ∷ 0 ∷ 0 ∷ 0 ∷ 0 ∷ 0 ∷ 0 ∷ 0 ∷ 0 ∷ 0 ∷ 62 ∷ []))
+    × (readSeen small (lists (dirty .nexts) (dirty .gates) (dirty .sizes) (41 ∷ 42 ∷ 43 ∷ 44 ∷ 45 ∷ [])) words ≡ cleared 2 6 2 5 3 35)
     -- 19 before 3
-    × (readSeen (97 ∷ 105 ∷ 103 ∷ 32 ∷ 51 ∷ 32 ∷ 49 ∷ 32 ∷ 48 ∷ 32 ∷ 48 ∷ 32 ∷ 49 ∷ 10 ∷ []) (lists [] [] [] []) words ≡ sees 19 [] [] [] [] (14 ∷ 0 ∷ 0 ∷
-    0 ∷ 0 ∷ 0 ∷ 0 ∷ 0 ∷ 0 ∷ 0 ∷ 0 ∷ 62 ∷ []))
+    × (readSeen (97 ∷ 105 ∷ 103 ∷ 32 ∷ 51 ∷ 32 ∷ 49 ∷ 32 ∷ 48 ∷ 32 ∷ 48 ∷ 32 ∷ 49 ∷ 10 ∷ []) (lists [] [] [] []) words ≡ cleared 0 0 0 0 19 14)
     -- 1 before 3
     × (readSeen (97 ∷ 105 ∷ 103 ∷ 32 ∷ 48 ∷ 32 ∷ 48 ∷ 32 ∷ 48 ∷ 32 ∷ 48 ∷ 32 ∷ 48 ∷ 32 ∷ 48 ∷ 32 ∷ 48 ∷ 32 ∷ 50 ∷ 10 ∷ 49 ∷ 48 ∷ 52 ∷ 56 ∷ 53 ∷ 55 ∷ 53 ∷
-    10 ∷ 49 ∷ 10 ∷ []) (lists [] [] (31 ∷ 32 ∷ []) []) words ≡ sees 1 [] [] (replicate 2 0) [] (30 ∷ 0 ∷ 0 ∷ 0 ∷ 0 ∷ 0 ∷ 0 ∷ 0 ∷ 0 ∷ 0 ∷ 0 ∷ 62 ∷ []))
+    10 ∷ 49 ∷ 10 ∷ []) (lists [] [] (31 ∷ 32 ∷ []) []) words
+    ≡ cleared 0 0 2 0 1 30)
     -- ten answer words: nothing is read and nothing written, whatever the file
     × (readSeen small dirty ten ≡ untouched 3 ten)
     -- no byte

@@ -1,14 +1,13 @@
 -- Which refusals reading a file can come to, and where. The file is read forward, so each comes of one of its sections: a decimal number, a byte, a delta, the
--- tests after the header and where the sizes end. A list is too short only where it is shorter than the limit that the counts are held to. What a section reads
--- stands within the bytes, so no place is past their end. Assumes nothing.
-use Prim.Native.Nat.{ℕ, zero, suc, _+_, _-_, _*_, _≤_, _<_}
+-- tests after the header and where the sizes end. What a section reads stands within the bytes, so no place is past their end. Assumes nothing.
+use Prim.Native.Nat.{ℕ, zero, suc, _+_, _-_, _*_, _≤_}
 use mathlib.Core.Path.{_≡_, refl}
 use mathlib.Core.Bool.{Bool, true, false, cond, _||_, _&&_}
 use mathlib.Core.List.{List, [], _∷_, _++_}
 use native.Mathlib.Omega.{arith}
 use lib.Dec.{ltb, leb, eqb}
 use lib.ListN.{length, getD, take, drop}
-use borrow.Author.Tests.{ltb-true, ltb-false}
+use borrow.Author.Tests.{ltb-true}
 use Rattle.token.specs.Format.{groupsValue, decimalValue}
 use Rattle.token.specs.Answer.{digitsAt, uintAt, uintOf, within, headerFieldAt, goOnAt, binaryOf, binaryAt, less, deltaAt, pairFirst, pairSecond, pairAt}
 use Rattle.token.specs.declared.Reason.{Reason}
@@ -23,29 +22,21 @@ use Rattle.lines.specs.declared.Fault.{Fault}
 use Rattle.lines.specs.declared.Fault.the-variants.{Number, Missing, Above, TooMany, Short}
 use Rattle.lines.specs.declared.Header.{Header}
 use Rattle.lines.specs.Reading.{Read, got, no, _▸_, rowAt}
-use Rattle.lines.specs.Limits.{Within}
 use Rattle.lines.specs.Lines.{isByte, byteAt, spaceAt, newlineAt, begins, tagAt, numberOf, numberAt, lineAt, linesAt, resetAt, latchAt, latchesAt}
 use Rattle.lines.specs.Sections.{countAt, optionsAt, headerOf, othersAt, countsAt, headerAt, topCode, firstRoots, rootCount, rootRoomAt, propertiesAt, sizesAt, rootsOf, rootsAt}
-use Rattle.token.proofs.Refusals.{NamesPlace, RefusedDelta, first, second, header-field-place}
+use Rattle.token.specs.Claims.{NamesPlace, RefusedDelta, first, second}
+use Rattle.token.proofs.Refusals.{header-field-place}
 use Rattle.token.proofs.Theorems.{delta-uses, pair-uses, pair-names-the-delta}
 use Rattle.lines.proofs.Answers.{number-held}
-use Rattle.lines.proofs.Heads.{header-within}
 use Rattle.binary.specs.File.{tag, Room, gateOf, gateAt, gatesAt, fileWith, sizedAt, listsAt, bodyAt, readFile}
-
--- some list is shorter than the limits
-pub data Smaller (room : Room) : Type 0 where
-  few-nexts : room .nexts < limit → Smaller room
-  few-gates : room .gates < 2 * limit → Smaller room
-  few-sizes : room .sizes < limit → Smaller room
-  few-roots : room .roots < limit → Smaller room
 
 -- a reading ends within the bytes s, and is refused, if at all, for a reason that P has
 abbrev pub Only : {A : Type 0} → List ℕ → (Fault → Type 0) → Read A → Type 0
 Only s P (got a at) = at ≤ length s
 Only s P (no why place) = P why × (place ≤ length s)
 
--- P has every reason that a file in lists of these lengths is refused for
-pub record Has (room : Room) (P : Fault → Type 0) : Type 0 where
+-- P has every reason that a file is refused for
+pub record Has (P : Fault → Type 0) : Type 0 where
   pub no-digit : P (Number NoDigit)
   pub leading-zero : P (Number LeadingZero)
   pub over-width : P (Number OverWidth)
@@ -56,9 +47,9 @@ pub record Has (room : Room) (P : Fault → Type 0) : Type 0 where
   pub missing : P Missing
   pub above : P Above
   pub too-many : P TooMany
-  pub short : Smaller room → P Short
+  pub short : P Short
 
-module _ (s : List ℕ) (room : Room) (P : Fault → Type 0) (has : Has room P) where
+module _ (s : List ℕ) (room : Room) (P : Fault → Type 0) (has : Has P) where
   -- steps
 
   abbrev Ends : {A : Type 0} → Read A → Type 0
@@ -240,8 +231,7 @@ module _ (s : List ℕ) (room : Room) (P : Fault → Type 0) (has : Has room P) 
   unfolding rootRoomAt
   root-room n at i =
       if (ltb limit n) (no TooMany at) (cond (ltb (room .roots) n) (no Short at) (got tt at)) (λ _. (has .too-many, i))
-      (λ few. if (ltb (room .roots) n) (no Short at) (got tt at)
-      (λ less. let a = ltb-false limit n few in let b = ltb-true (room .roots) n less in (has .short (few-roots (omega arith)), i)) (λ _. i))
+      (λ _. if (ltb (room .roots) n) (no Short at) (got tt at) (λ _. (has .short, i)) (λ _. i))
 
   properties : (h : Header) (most justice at : ℕ) → at ≤ length s → Ends (propertiesAt s h most justice (room .roots) at)
   unfolding propertiesAt
@@ -288,20 +278,12 @@ module _ (s : List ℕ) (room : Room) (P : Fault → Type 0) (has : Has room P) 
   unfolding gatesAt
   gates n m at i = row (gateAt s n) (gate n) 0 m at i
 
-  sized : (h : Header) (at : ℕ) → Within h → at ≤ length s → Ends (sizedAt h room at)
+  sized : (h : Header) (at : ℕ) → at ≤ length s → Ends (sizedAt h room at)
   unfolding sizedAt
-  sized h at w i =
-      if (ltb (h .inputs + h .latches + h .gates) (h .top)) (no Above at)
-      (cond (ltb (room .nexts) (h .latches) || ltb (room .gates) (2 * h .gates) || ltb (room .sizes) (h .justice)) (no Short at) (got tt at))
-      (λ _. (has .above, i))
-      (λ _. go (ltb (room .nexts) (h .latches)) (ltb (room .gates) (2 * h .gates)) (ltb (room .sizes) (h .justice)) refl refl refl)
-    where
-      go : (a b c : Bool) → ltb (room .nexts) (h .latches) ≡ a → ltb (room .gates) (2 * h .gates) ≡ b → ltb (room .sizes) (h .justice) ≡ c
-          → Ends {A = Unit {0}} (cond (a || b || c) (no Short at) (got tt at))
-      go true b c e f g = let less = ltb-true (room .nexts) (h .latches) e in (has .short (few-nexts (omega (arith, w .defined, w .top))), i)
-      go false true c e f g = let less = ltb-true (room .gates) (2 * h .gates) f in (has .short (few-gates (omega (arith, w .defined, w .top))), i)
-      go false false true e f g = let less = ltb-true (room .sizes) (h .justice) g in (has .short (few-sizes (omega (arith, w .justice))), i)
-      go false false false e f g = i
+  sized h at i =
+      let short = ltb (room .nexts) (h .latches) || ltb (room .gates) (2 * h .gates) || ltb (room .sizes) (h .justice) in
+      if (ltb (h .inputs + h .latches + h .gates) (h .top)) (no Above at) (cond short (no Short at) (got tt at)) (λ _. (has .above, i))
+      (λ _. if short (no Short at) (got tt at) (λ _. (has .short, i)) (λ _. i))
 
   lists : (h : Header) (at : ℕ) → at ≤ length s → Ends (listsAt s (room .roots) h at)
   unfolding listsAt
@@ -319,5 +301,5 @@ module _ (s : List ℕ) (room : Room) (P : Fault → Type 0) (has : Has room P) 
   unfolding readFile bodyAt
   only-read =
       then (headerAt s tag) (λ h at. bodyAt s room h at) (header tag)
-      (λ h at e i. then (sizedAt h room at) (λ _ at₁. listsAt s (room .roots) h at₁) (sized h at (header-within s tag h at e) i)
+      (λ h at e i. then (sizedAt h room at) (λ _ at₁. listsAt s (room .roots) h at₁) (sized h at i)
       (λ _ at₁ _ i₁. lists h at₁ i₁))

@@ -1,13 +1,14 @@
 -- Eleven stores from the first word on leave the answer words, and what stood past them; and the two ways out of `read`, each a case of what C
 -- sees. Assumes nothing.
 use Prim.Native.Nat.{ℕ, _+_, _≤_, _<_}
-use mathlib.Core.Path.{_≡_, refl, ap, _∙_}
+use mathlib.Core.Path.{_≡_, refl, ap, _∙_, sym}
 use mathlib.Core.List.{List, [], _∷_, _++_}
 use native.Mathlib.Omega.{arith}
 use lib.ListN.{length, getD}
 use lib.Seq.{sets, sets-eq}
 use borrow.Author.Tests.{lt-ltb, le-ltb}
 use Rattle.circuit.specs.Outcome.{onto}
+use Rattle.circuit.proofs.Outcome.{onto-long}
 use Rattle.binary.specs.declared.FileRead.{FileRead}
 use Rattle.binary.specs.Promise.{Lists, Outcome, outcome}
 use Rattle.file_words.specs.Read.{fileNumber, firstWord, answerWords, seenOf, asSeen, readSeen}
@@ -41,7 +42,7 @@ module _ (said : FileRead) (words : List ℕ) (room : 11 ≤ length words) (five
       let put = sets-eq (stored first i l g o b c f j n) words 0 room in
       let same : stored first i l g o b c f j n ≡ answerWords said =
       rw (e₁, e₂, e₃, e₄, counted (said .counts) five-counts p₁ p₂ p₃ p₄ p₅ n, e₅) in
-      put ∙ ap (λ (ws : List ℕ). onto ws words) same
+      put ∙ sym (onto-long (stored first i l g o b c f j n) words room) ∙ ap (λ (ws : List ℕ). onto ws words) same
 
 -- what C sees
 module _ (bytes : List ℕ) (l : Lists) (words : List ℕ) where

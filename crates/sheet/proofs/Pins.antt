@@ -1,11 +1,11 @@
 -- Whole sheets and their whole texts by example, worked out from document 01, and the circuit on a sheet field by field: each is one on which a neighbouring
 -- definition answers otherwise. By computation. Assumes nothing.
 use Prim.Native.Nat.{ℕ, zero, suc}
-use mathlib.Core.Path.{_≡_, refl}
+use mathlib.Core.Path.{_≡_, refl, ap}
 use mathlib.Core.Bool.{Bool, true, false}
 use mathlib.Core.List.{List, [], _∷_, _++_}
 use native.Mathlib.Omega.{arith}
-use lib.ListN.{length, replicate}
+use lib.ListN.{length, getD, replicate, length-append}
 use Rattle.token.specs.Format.{digitsOf}
 use Rattle.token.specs.Answer.{binaryAt, goOnAt}
 use Rattle.lit.specs.Code.{isOdd, variable, flipped}
@@ -20,7 +20,7 @@ use Rattle.sheet_lines.specs.Lines.{refusedLine, orderedLine, gateLine, imageLi
 use Rattle.sheet_lines.specs.Text.{beside, orderedText, refusedText}
 use Rattle.sheet_read.specs.Sheet.{numbersAt, rootCount, tooLarge, codeCount, listsRead, sheetRead, readOf}
 use Rattle.sheet.specs.Circuit.{statesOf, nextsOf, inputCodes, gateWords, latchWords, rootCodes, recordOn, circuitOn}
-use Rattle.sheet.specs.Report.{textOf, reportOf}
+use Rattle.sheet.specs.Report.{textOf, reportOf, Ends}
 use Rattle.sheet_read.specs.Promise.{Taken}
 use Rattle.sheet.specs.Promise.{Words, circuitIn, Shaped, Roomy}
 
@@ -269,3 +269,12 @@ words-pinned = (fit, λ w. omega (arith, w 1 (omega arith)))
     fit zero h = omega arith
     fit (suc zero) h = omega arith
     fit (suc (suc i)) h = absurd (omega arith)
+
+-- a newline last, with bytes before it and alone; and one that is not last
+pub ends-pinned : Ends (7 ∷ 10 ∷ []) × Ends (10 ∷ []) × (Ends (10 ∷ 7 ∷ []) → ⊥)
+ends-pinned = (record { front = 7 ∷ []; last = refl }, record { front = []; last = refl }, λ e. other (e .front) (e .last))
+  where
+    other : (front : List ℕ) → 10 ∷ 7 ∷ [] ≡ front ++ (10 ∷ []) → ⊥
+    other [] e = let z : _≡_ {A = ℕ} 2 1 = ap length e in omega arith
+    other (x ∷ []) e = let z : _≡_ {A = ℕ} 7 10 = ap (λ (l : List ℕ). getD l 1 0) e in omega arith
+    other (x ∷ y ∷ front) e = let n = ap length e in omega (arith, length-append front (10 ∷ []))
