@@ -12,7 +12,9 @@ use Rattle.lines.specs.Lines.{isByte, byteAt, tagAt, numberAt, lineAt, linesAt,
 use Rattle.lines.specs.Sections.{countAt, othersAt, countsAt, headerAt, rootRoomAt, propertiesAt, sizesAt, rootsAt}
 use Rattle.binary.specs.File.{gateAt, gatesAt, sizedAt, listsAt, bodyAt, readFile}
 use Rattle.binary.specs.Promise.{Lists}
-use Rattle.file_words.specs.Read.{Seen, readSeen}
+use Rattle.binary.specs.declared.FileAnswer.the-variants.{Taken}
+use Rattle.binary.specs.declared.FileRead.{FileRead}
+use Rattle.file_words.specs.Read.{Seen, answerWords, readSeen}
 
 -- next states, gates, sizes, roots
 abbrev lists : List ℕ → List ℕ → List ℕ → List ℕ → Lists
@@ -53,6 +55,14 @@ ten = 51 ∷ 52 ∷ 53 ∷ 54 ∷ 55 ∷ 56 ∷ 57 ∷ 58 ∷ 59 ∷ 60 ∷ []
 
 abbrev untouched : ℕ → List ℕ → Seen
 untouched number left = sees number (dirty .nexts) (dirty .gates) (dirty .sizes) (dirty .roots) left
+
+-- the numbers of a file that is taken, all of them different
+abbrev numbers : FileRead
+numbers = record { answer = Taken 99; inputs = 2; latches = 30; gates = 400; counts = 5 ∷ 6 ∷ 7 ∷ 8 ∷ 9 ∷ []; sets = 10 }
+
+-- which word is which; M is the sum of three
+pub words-pinned : answerWords numbers ≡ 99 ∷ 432 ∷ 2 ∷ 30 ∷ 400 ∷ 5 ∷ 6 ∷ 7 ∷ 8 ∷ 9 ∷ 10 ∷ []
+words-pinned = refl
 
 -- a file that is taken: all but its reset is there, fairness before justice, and 46 bytes are used
 pub taken-pinned :
