@@ -17,11 +17,12 @@ use Rattle.circuit.specs.Map.{noImage, imageIn, codeOf}
 use Rattle.circuit.specs.Walk.{Net, Work, Out, sourceCount, firstCode, nextCode, already, settleAs, settleOn, settle, orElse, foldedIf, madeIf}
 use Rattle.circuit.specs.Machine.{Machine, goes, step}
 use Rattle.circuit.specs.Outcome.{gatesOf}
-use Rattle.circuit.proofs.Map.{entry, codeIn, code-image}
+use Rattle.circuit.proofs.Map.{code-image}
 use Rattle.circuit.proofs.Graph.{gateFor-of}
 use Rattle.circuit.proofs.Invariant.{flipped-below}
-use Rattle.circuit.proofs.Machine.{FrameOk, gate-fits}
-use Rattle.circuit.proofs.Words.{gateAt}
+use Rattle.circuit.proofs.Machine.{gate-fits}
+use Rattle.circuit.specs.Invariant.{FrameOk, entry, codeIn}
+use Rattle.circuit.specs.Claims.{gateAt}
 use Rattle.aig.specs.declared.shape.Shape.{Shape}
 use Rattle.fold.specs.declared.Pair.{Pair}
 use Rattle.aig.specs.declared.trie.Search.{Search}
@@ -38,7 +39,7 @@ use Rattle.aig.proofs.Stepping.{returning, frame, step-no-gate, step-se
 use Rattle.aig.proofs.Weighing.{weigh-return, weigh-second}
 use Rattle.aig.proofs.Standing.{gate-count, table-none, table-gate, number-reads, frame-inside}
 use Rattle.aig.proofs.Holding.{Settles, settles}
-use Rattle.aig.proofs.Transferring.{over, on}
+use Rattle.aig.proofs.Transferring.{halted, on}
 
 -- an image that is there is read
 no-absent : (m : List ℕ) (c : ℕ) → entry m (var c) ≢ noImage → imageIn m c ≡ Absent → ⊥
@@ -72,7 +73,7 @@ module _ {s : Shape} {sources gates : List ℕ} {o : Out} {n : Walk} {l : Lit} {
             record {
               ground = g;
               goes =
-                  over g here (t .holds) (t .running) (t .comes) (Undefined l)
+                  halted g here (t .holds) (t .running) (t .comes) (Undefined l)
                   (step-no-gate N (t .frames) (l .0) (t .work) true (table-none g (t .holds) (var (l .0)) second-within e));
             };
         less = omega arith;

@@ -21,8 +21,7 @@ use Rattle.circuit.specs.Tested.{Tested}
 use Rattle.circuit.proofs.Words.{pairs-length}
 use Rattle.circuit.proofs.Renumber.{Done, Answered}
 use Rattle.circuit.proofs.Outcome as O
-use Rattle.lent.specs.Over.{over}
-use Rattle.lent.proofs.Rows.{over-long}
+use Rattle.circuit.proofs.Outcome.{onto-long}
 use Rattle.lent.proofs.Entries.{images-length}
 use Rattle.ending.specs.declared.Walked.{Walked}
 use Rattle.ending.specs.Ending.{madeWith, ended}
@@ -32,13 +31,14 @@ use Rattle.aig.proofs.Bounds.{next-low, root-low}
 use Rattle.aig.proofs.Passing.{bareOf, concludes, answer, made-few, late}
 
 -- a list by its front and by what stood past it in another
-joins : (k : ℕ) (x y ws : List ℕ) → take k x ≡ ws → drop k x ≡ drop k y → length ws ≡ k → x ≡ onto ws y
-joins k x y ws e f h =
+joins : (k : ℕ) (x y ws : List ℕ) → take k x ≡ ws → drop k x ≡ drop k y → length ws ≡ k → k ≤ length y → x ≡ onto ws y
+joins k x y ws e f h fits =
     sym (take-append-drop k x) ∙ ap₂ {C = List ℕ} (λ (p q : List ℕ). p ++ q) e (f ∙ ap (λ (j : ℕ). drop j y) (sym h))
+    ∙ sym (onto-long ws y (omega arith))
 
--- words over the front of a list that has the words of another past it
-over-past : (ws x y : List ℕ) → length ws ≤ length x → drop (length ws) x ≡ drop (length ws) y → over ws x ≡ onto ws y
-over-past ws x y h e = over-long ws x h ∙ ap (λ (t : List ℕ). ws ++ t) e
+-- words onto the front of a list that has the words of another past it
+onto-past : (ws x y : List ℕ) → length ws ≤ length x → length x ≡ length y → drop (length ws) x ≡ drop (length ws) y → onto ws x ≡ onto ws y
+onto-past ws x y h same e = onto-long ws x h ∙ ap (λ (t : List ℕ). ws ++ t) e ∙ sym (onto-long ws y (omega arith))
 
 -- the images in a map are those in its front, if that has a word for every variable
 images-front : (n : ℕ) (m cs : List ℕ) → ((c : ℕ) → In c cs → var c < n) → imagesIn m cs ≡ imagesIn (take n m) cs
@@ -79,21 +79,20 @@ module _ (l : Lent) (p : Tested l) where
     abbrev left : Lent
     left = lentOf (l .circuit) (l .inputs) (l .states) (l .nexts) (l .gates) (l .roots) m (l .nextImages) (l .rootImages) g s
 
-    -- zeros, or other words, over as much of a list as is named
-    fill-is : (v n : ℕ) (x y : List ℕ) → n ≤ length x → drop n x ≡ drop n y → over (replicate n v) x ≡ onto (replicate n v) y
-    fill-is v n x y h e =
+    -- zeros, or other words, onto as much of a list as is named
+    fill-is : (v n : ℕ) (x y : List ℕ) → n ≤ length x → length x ≡ length y → drop n x ≡ drop n y → onto (replicate n v) x ≡ onto (replicate n v) y
+    fill-is v n x y h same e =
         let i : length (replicate n v) ≡ n = length-replicate n v in
-        over-past (replicate n v) x y (omega arith) (ap (λ (j : ℕ). drop j x) i ∙ e ∙ ap (λ (j : ℕ). drop j y) (sym i))
+        onto-past (replicate n v) x y (omega arith) same (ap (λ (j : ℕ). drop j x) i ∙ e ∙ ap (λ (j : ℕ). drop j y) (sym i))
 
-    scratch-is : over (zeros (scratchWords K)) s ≡ onto (zeros (scratchWords K)) (l .scratch)
-    scratch-is = fill-is 0 (scratchWords K) s (l .scratch) (omega (arith, room .scratch, es)) (k .pastScratch)
+    scratch-is : onto (zeros (scratchWords K)) s ≡ onto (zeros (scratchWords K)) (l .scratch)
+    scratch-is = fill-is 0 (scratchWords K) s (l .scratch) (omega (arith, room .scratch, es)) es (k .pastScratch)
 
     -- the images of a list of the circuit's codes
-    images-are : (w : Work) (cs y : List ℕ) → take (mapWords K) m ≡ w .images → ((c : ℕ) → In c cs → c ≤ 2 * K .top + 1) → length cs ≤ length y
-        → over (imagesIn m cs) y ≡ onto (imagesIn (w .images) cs) y
-    images-are w cs y e low h =
-        over-long (imagesIn m cs) y (omega (arith, images-length m cs, h))
-        ∙ ap (λ (is : List ℕ). onto is y) (images-front (mapWords K) m cs (λ c i. omega (arith, low c i)) ∙ ap (λ (x : List ℕ). imagesIn x cs) e)
+    images-are : (w : Work) (cs y : List ℕ) → take (mapWords K) m ≡ w .images → ((c : ℕ) → In c cs → c ≤ 2 * K .top + 1)
+        → onto (imagesIn m cs) y ≡ onto (imagesIn (w .images) cs) y
+    images-are w cs y e low =
+        ap (λ (is : List ℕ). onto is y) (images-front (mapWords K) m cs (λ c i. omega (arith, low c i)) ∙ ap (λ (x : List ℕ). imagesIn x cs) e)
 
     succeeds : (w : Work) → renumber K ≡ reached w → WalkEnds K (reached w) r (take (mapWords K) m) (take (2 * length (K .gates)) g)
         → ended r left ≡ after l (reached w)
@@ -111,10 +110,10 @@ module _ (l : Lent) (p : Tested l) where
         let long : length (pairWords (w .made) ++ zeros rest) ≡ 2 * length (K .gates)
         = omega (arith, length-append (pairWords (w .made)) (zeros rest), length-replicate {A = ℕ} rest 0, pairs-length (w .made), few) in
         rw er
-        (outcome-eq _ (joins (mapWords K) m (l .map) (w .images) ei (k .pastMap) (d .inv .size))
-        (images-are w (l .nexts) (l .nextImages) ei (λ c. next-low (O.bounds l p) agr c) (omega (arith, agr .latches, room .nexts)))
-        (images-are w (l .roots) (l .rootImages) ei (λ c. root-low (O.bounds l p) agr c) (room .roots))
-        (joins (2 * length (K .gates)) g (l .gatesOut) _ eo (k .pastOut) long) scratch-is
+        (outcome-eq _ (joins (mapWords K) m (l .map) (w .images) ei (k .pastMap) (d .inv .size) (room .map))
+        (images-are w (l .nexts) (l .nextImages) ei (λ c. next-low (O.bounds l p) agr c))
+        (images-are w (l .roots) (l .rootImages) ei (λ c. root-low (O.bounds l p) agr c))
+        (joins (2 * length (K .gates)) g (l .gatesOut) _ eo (k .pastOut) long (room .gates)) scratch-is
         ∙ ap (λ (a : Answer). record {
           answer = a;
           map = onto (w .images) (l .map);
@@ -131,10 +130,10 @@ module _ (l : Lent) (p : Tested l) where
     unfolding ended after
     refuses why e er =
         rw (er, late l p why (subst (Answered K) e (answer l p)))
-        (outcome-eq (Refused why) (fill-is noImage (mapWords K) m (l .map) (omega (arith, room .map, em)) (k .pastMap))
-        (fill-is 0 (length (l .states)) (l .nextImages) (l .nextImages) (room .nexts) refl)
-        (fill-is 0 (length (l .roots)) (l .rootImages) (l .rootImages) (room .roots) refl)
-        (fill-is 0 (2 * length (K .gates)) g (l .gatesOut) (omega (arith, room .gates, eg)) (k .pastOut)) scratch-is)
+        (outcome-eq (Refused why) (fill-is noImage (mapWords K) m (l .map) (omega (arith, room .map, em)) em (k .pastMap))
+        (fill-is 0 (length (l .states)) (l .nextImages) (l .nextImages) (room .nexts) refl refl)
+        (fill-is 0 (length (l .roots)) (l .rootImages) (l .rootImages) (room .roots) refl refl)
+        (fill-is 0 (2 * length (K .gates)) g (l .gatesOut) (omega (arith, room .gates, eg)) eg (k .pastOut)) scratch-is)
 
     pub ends : ended r left ≡ outcome l
     ends = go (renumber K) refl (k .ends) ∙ concludes l p

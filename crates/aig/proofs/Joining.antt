@@ -12,12 +12,12 @@ use Rattle.circuit.specs.Graph.{In}
 use Rattle.circuit.specs.Walk.{Work, Out, walkAll}
 use Rattle.circuit.specs.Circuit.{Circuit, net, gateOutputs, start, walked}
 use Rattle.circuit.specs.Outcome.{Lent, circuitOf, mapWords, pairWords, zeros}
-use Rattle.circuit.proofs.Invariant.{Sized, Inv}
 use Rattle.circuit.proofs.Lists.{In-cases, In-getD}
 use Rattle.circuit.proofs.Start.{start-inv}
 use Rattle.circuit.proofs.Words.{gates-length}
 use Rattle.circuit.proofs.Tests.{lt-or}
 use Rattle.circuit.proofs.Renumber.{Limits, sized, counting}
+use Rattle.circuit.specs.Invariant.{Sized, Inv}
 use Rattle.aig.specs.declared.shape.Shape.{Shape}
 use Rattle.ending.specs.declared.Walked.{Walked}
 use Rattle.ending.specs.declared.Walked.the-variants.{Reached, Stopped}

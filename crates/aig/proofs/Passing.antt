@@ -26,7 +26,7 @@ use Rattle.circuit.proofs.Renumber.{Done, Why, Answered, answered}
 use Rattle.circuit.proofs.Outcome as O
 use Rattle.checks.specs.declared.Check.the-variants.{Passed, Failed}
 use Rattle.checks.specs.Checks.{failIf, failAt, passing}
-use Rattle.checks.specs.Lending.{bare}
+use Rattle.checks.specs.Bare.{bare}
 
 -- checks 1 to 4
 module _ (l : Lent) where

@@ -11,7 +11,8 @@ use borrow.Author.Tests.{eq-eqb, ne-eqb}
 use Rattle.lit.specs.declared.Lit.{Lit}
 use Rattle.circuit.specs.Walk.{Out, reached}
 use Rattle.circuit.specs.Machine.{Frame, Machine, frameWord}
-use Rattle.circuit.proofs.Machine.{Running, comesTo, weight}
+use Rattle.circuit.proofs.Machine.{weight}
+use Rattle.circuit.specs.Invariant.{Running, comesTo}
 use Rattle.aig.specs.declared.shape.Shape.{Shape}
 use Rattle.aig.specs.declared.stack.Frame as entries
 use Rattle.aig.specs.declared.stack.Frame.the-variants as entry

@@ -14,9 +14,7 @@ use Rattle.circuit.specs.Graph.{gateFor}
 use Rattle.circuit.specs.Walk.{Work, isMiddle, stackRoom}
 use Rattle.circuit.specs.Machine.{Frame, pathOf, frameWord, stackWords}
 use Rattle.circuit.specs.Outcome.{gatesOf}
-use Rattle.circuit.proofs.Invariant.{Inv}
-use Rattle.circuit.proofs.Machine.{Running}
-use Rattle.circuit.proofs.Words.{gateAt, gates-length, stack-length, middle-words, path-length}
+use Rattle.circuit.proofs.Words.{gates-length, stack-length, middle-words, path-length}
 use Rattle.aig.specs.declared.shape.Shape.{Shape}
 use Rattle.aig.specs.declared.table.GateNumber.the-variants.{Number, Nothing}
 use Rattle.aig.specs.Table as table
@@ -27,6 +25,8 @@ use Rattle.aig.specs.Going.{netOf, topOf, Ground, Holds, Stacked, Long}
 use Rattle.defs.specs.Define.{noGate}
 use Rattle.defs.proofs.Definitions.{gates-at}
 use Rattle.circuit.proofs.Tests.{Same, same, other, sameTest}
+use Rattle.circuit.specs.Invariant.{Inv, Running}
+use Rattle.circuit.specs.Claims.{gateAt}
 use Rattle.aig.proofs.Stepping.{returning}
 use Rattle.aig.proofs.Parts.{part-set, part-after, part-length}
 use Rattle.aig.proofs.Finding.{out-length}

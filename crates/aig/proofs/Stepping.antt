@@ -14,8 +14,8 @@ use Rattle.circuit.specs.Graph.{Gate, DefinedOnce, gateFor}
 use Rattle.circuit.specs.Map.{imageIn}
 use Rattle.circuit.specs.Walk.{Net, Work, Out, reached, stopped, isMiddle, look, stackRoom, settle}
 use Rattle.circuit.specs.Machine.{Frame, transfer, back, Machine, goes, ends, pathOf, stepLook, stepBack, stepAt, step}
-use Rattle.circuit.proofs.Invariant.{Sized}
-use Rattle.circuit.proofs.Machine.{Running, comesTo, Follows, weight, Goes, step-follows, step-runs}
+use Rattle.circuit.proofs.Machine.{Follows, weight, Goes, step-follows, step-runs}
+use Rattle.circuit.specs.Invariant.{Sized, Running, comesTo}
 
 -- about to walk c, with these frames and this work
 abbrev pub walking : List Frame → ℕ → Work → Machine

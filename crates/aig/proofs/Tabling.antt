@@ -15,14 +15,13 @@ use Rattle.circuit.specs.Graph.{Distinct, outVar, DefinedOnce}
 use Rattle.circuit.specs.Map.{noImage, store}
 use Rattle.circuit.specs.Walk.{Out, stopped, walkAll}
 use Rattle.circuit.specs.Circuit.{Circuit, graph, net, gateOutputs, firstAgain, definitions, storeFrom, start, walked, orRefuse, renumber}
-use Rattle.circuit.specs.Outcome.{Lent, circuitOf, mapWords, scratchWords, zeros}
+use Rattle.circuit.specs.Outcome.{Lent, circuitOf, mapWords, scratchWords, zeros, onto}
 use Rattle.circuit.proofs.Checks.{Apart, Again, once, againTest, map-append, map-outputs, parts-join}
 use Rattle.circuit.proofs.Words.{gates-length}
 use Rattle.checks.specs.declared.Check.{Check}
 use Rattle.checks.specs.declared.Check.the-variants.{Passed, Failed}
 use Rattle.checks.specs.Checks.{failAt}
-use Rattle.lent.specs.Over.{over}
-use Rattle.lent.proofs.Rows.{over-long}
+use Rattle.circuit.proofs.Outcome.{onto-long}
 use Rattle.images.specs.Begin.{begun}
 use Rattle.images.proofs.Few.{few}
 use Rattle.defs.specs.Define.{Judged, defineAll}
@@ -46,8 +45,8 @@ drop-zeros (suc j) zero ys h = absurd (omega arith)
 drop-zeros (suc j) (suc k) ys h = let e : k - j ≡ suc k - suc j = omega arith in drop-zeros j k ys (omega arith) ∙ ap (λ (i : ℕ). zeros i ++ ys) e
 
 -- zeros over a list that is long enough
-over-zeros : (k : ℕ) (ys : List ℕ) → k ≤ length ys → over (zeros k) ys ≡ zeros k ++ drop k ys
-over-zeros k ys h = over-long (zeros k) ys (omega (arith, length-replicate {A = ℕ} k 0)) ∙ ap (λ (j : ℕ). zeros k ++ drop j ys) (length-replicate k 0)
+onto-zeros : (k : ℕ) (ys : List ℕ) → k ≤ length ys → onto (zeros k) ys ≡ zeros k ++ drop k ys
+onto-zeros k ys h = onto-long (zeros k) ys (omega (arith, length-replicate {A = ℕ} k 0)) ∙ ap (λ (j : ℕ). zeros k ++ drop j ys) (length-replicate k 0)
 
 -- a list of two parts, cut between them
 cut : (x p q : List ℕ) (k : ℕ) → x ≡ p ++ q → length p ≡ k → (take k x ≡ p) × (drop k x ≡ q)
@@ -143,7 +142,7 @@ module _ {l : Lent} {words out scratch : List ℕ} (x : WalkIn l words out scrat
     clean-is : cleaned n (l .gates) scratch ≡ zeros k ++ drop k scratch
     clean-is =
         let w : 3 * n + 3 * (length (l .gates) / 3) ≡ k = omega (arith, gates-length (l .gates)) in
-        ap (λ (j : ℕ). over (zeros j) scratch) w ∙ over-zeros k scratch (x .scratchLong)
+        ap (λ (j : ℕ). onto (zeros j) scratch) w ∙ onto-zeros k scratch (x .scratchLong)
 
     blank : take n (cleaned n (l .gates) scratch) ≡ zeros n
     blank = ap (take n) clean-is ∙ take-zeros n k (drop k scratch) (omega arith)
@@ -176,7 +175,7 @@ module _ {l : Lent} {words out scratch : List ℕ} (x : WalkIn l words out scrat
     out-parts =
         let w : 2 * (length (l .gates) / 3) ≡ 2 * G = omega (arith, gates-length (l .gates)) in
         cut o (zeros (2 * G)) _ (2 * G)
-        (ap (λ (y : Ready). y .out) opened ∙ ap (λ (j : ℕ). over (zeros j) out) w ∙ over-zeros (2 * G) out (x .outLong))
+        (ap (λ (y : Ready). y .out) opened ∙ ap (λ (j : ℕ). onto (zeros j) out) w ∙ onto-zeros (2 * G) out (x .outLong))
         (length-replicate (2 * G) 0)
 
     table-long : length (J .words) ≡ n

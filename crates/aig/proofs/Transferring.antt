@@ -18,8 +18,8 @@ use Rattle.circuit.specs.Map.{imageIn}
 use Rattle.circuit.specs.Walk.{Work, Out, stopped, isMiddle}
 use Rattle.circuit.specs.Machine.{Frame, pathOf, Machine, goes, ends, step}
 use Rattle.circuit.specs.Outcome.{gatesOf}
-use Rattle.circuit.proofs.Machine.{Running, comesTo}
-use Rattle.circuit.proofs.Words.{gateAt}
+use Rattle.circuit.specs.Invariant.{Running, comesTo}
+use Rattle.circuit.specs.Claims.{gateAt}
 use Rattle.aig.specs.declared.shape.Shape.{Shape}
 use Rattle.aig.specs.declared.table.GateNumber.the-variants.{Number, Nothing}
 use Rattle.aig.specs.declared.stack.Frame.the-variants as entry
@@ -30,7 +30,7 @@ use Rattle.aig.specs.Table as table
 use Rattle.aig.specs.Layout.{stackAt, stackOf}
 use Rattle.aig.specs.Stack.{wordOf, middleIs}
 use Rattle.aig.specs.Settle.{numbers}
-use Rattle.aig.specs.Going.{netOf, topOf, Ground, Holds, Stacked, machineOf, Inside, numbersOf, On, Over, Going}
+use Rattle.aig.specs.Going.{netOf, topOf, Ground, Holds, Stacked, machineOf, Inside, numbersOf, On, Halted, Going}
 use Rattle.aig.specs.Turns.{toGo, Onward}
 use Rattle.aig.proofs.Stepping.{walking, returning, frame, step-mapped, step-cycle, step-undefined, step-deep, step-enter, step-no-gate, step-first, ended, stepped-runs, stepped-less, stepped-comes}
 use Rattle.aig.proofs.Weighing.{weigh-transfer, weigh-return, weigh-first}
@@ -38,9 +38,9 @@ use Rattle.aig.proofs.Standing.{room-is, table-none, table-gate, first-
 
 module _ {s : Shape} {sources gates : List ℕ} {o : Out} (g : Ground s sources gates) where
   -- a step to a refusal
-  pub over : {made : ℕ} {map out scratch : List ℕ} (m : Machine) → Holds s gates made (m .work) map out scratch → Running (netOf s sources gates) (topOf s) m
-      → comesTo (netOf s sources gates) m ≡ o → (why : Refusal) → step (netOf s sources gates) m ≡ ends (stopped why) → Over s o (stopped why) map out scratch
-  over m h r c why st = record { long = lists-long g h (r .inv); comes = ended (netOf s sources gates) m o (stopped why) st c }
+  pub halted : {made : ℕ} {map out scratch : List ℕ} (m : Machine) → Holds s gates made (m .work) map out scratch → Running (netOf s sources gates) (topOf s) m
+      → comesTo (netOf s sources gates) m ≡ o → (why : Refusal) → step (netOf s sources gates) m ≡ ends (stopped why) → Halted s o (stopped why) map out scratch
+  halted m h r c why st = record { long = lists-long g h (r .inv); comes = ended (netOf s sources gates) m o (stopped why) st c }
 
   -- a step onward
   pub on : (state state′ : State) {map out scratch map′ out′ scratch′ : List ℕ} (k : On s sources gates o state map out scratch) (fs′ : List Frame) (w′ : Work)
@@ -80,7 +80,7 @@ module _ {s : Shape} {sources gates : List ℕ} {o : Out} {n : Walk} {l : Lit} {
 
   stop : (why : Refusal) → step (netOf s sources gates) here ≡ ends (stopped why) → After (Stopped why) scratch
   unfolding toGo
-  stop why st = record { going = record { ground = g; goes = over g here (t .holds) (t .running) (t .comes) why st }; less = omega arith }
+  stop why st = record { going = record { ground = g; goes = halted g here (t .holds) (t .running) (t .comes) why st }; less = omega arith }
 
   pub transfer-mapped : {x : Lit} → imageIn map (l .0) ≡ Code x → After (Return n) scratch
   transfer-mapped {x} e =
@@ -176,7 +176,7 @@ module _ {s : Shape} {sources gates : List ℕ} {o : Out} {n : Walk} {l : Lit} {
             record {
               ground = k .ground;
               goes =
-                  over (k .ground) there (t₁ .holds) (t₁ .running) (t₁ .comes) (Undefined l)
+                  halted (k .ground) there (t₁ .holds) (t₁ .running) (t₁ .comes) (Undefined l)
                   (step-no-gate (netOf s sources gates) (t₁ .frames) (l .0) (t₁ .work) false (table-none (k .ground) (t₁ .holds) (var (l .0)) first-within e));
             };
         less = omega arith;

@@ -11,8 +11,8 @@ use Rattle.circuit.specs.Walk.{Net, Work, stackRoom}
 use Rattle.circuit.specs.Machine.{Frame, stackWords, frameWord}
 use Rattle.circuit.specs.Outcome.{gatesOf}
 use Rattle.circuit.proofs.Machine.{firsts, weight}
-use Rattle.circuit.proofs.Settled.{settled}
 use Rattle.circuit.proofs.Words.{word-phase}
+use Rattle.circuit.specs.Invariant.{settled}
 use Rattle.aig.specs.declared.shape.Shape.{Shape}
 use Rattle.aig.specs.declared.walk.Walk.{Walk}
 use Rattle.aig.specs.declared.walk.State.the-variants.{Transfer, First, Second, Return}

@@ -9,8 +9,7 @@ use Rattle.circuit.specs.Graph.{DefinedOnce}
 use Rattle.circuit.specs.Walk.{Net, Work, Out, reached, stopped}
 use Rattle.circuit.specs.Machine.{Frame, transfer, back, Machine, stackWords}
 use Rattle.circuit.specs.Outcome.{gatesOf}
-use Rattle.circuit.proofs.Invariant.{Sized, Inv}
-use Rattle.circuit.proofs.Machine.{Running, comesTo}
+use Rattle.circuit.specs.Invariant.{Sized, Inv, Running, comesTo}
 use Rattle.aig.specs.declared.shape.Shape.{Shape}
 use Rattle.aig.specs.declared.walk.Walk.{Walk}
 use Rattle.aig.specs.declared.walk.State.{State}
@@ -98,7 +97,7 @@ pub record Long (s : Shape) (map out scratch : List ℕ) : Type 0 where
   pub ofScratch : length scratch ≡ 3 * s .vars + 3 * s .gates
 
 -- the walk has stopped
-pub record Over (s : Shape) (o refusal : Out) (map out scratch : List ℕ) : Type 0 where
+pub record Halted (s : Shape) (o refusal : Out) (map out scratch : List ℕ) : Type 0 where
   pub long : Long s map out scratch
   pub comes : refusal ≡ o
 
@@ -108,7 +107,7 @@ GoingAt s sources gates o (First n l) map out scratch = On s sources gates o (Fi
 GoingAt s sources gates o (Second n l) map out scratch = On s sources gates o (Second n l) map out scratch
 GoingAt s sources gates o (Return n) map out scratch = On s sources gates o (Return n) map out scratch
 GoingAt s sources gates o (Reached n) map out scratch = Done s sources gates o (n .made) map out scratch
-GoingAt s sources gates o (Stopped why) map out scratch = Over s o (stopped why) map out scratch
+GoingAt s sources gates o (Stopped why) map out scratch = Halted s o (stopped why) map out scratch
 
 -- from the state and the lists, the walk comes to o
 pub record Going (s : Shape) (sources gates : List ℕ) (o : Out) (state : State) (map out scratch : List ℕ) : Type 0 where

@@ -6,14 +6,14 @@ use lib.Dec.{eqb}
 use lib.ListN.{length, take}
 use Rattle.circuit.specs.Walk.{Out, stopped}
 use Rattle.circuit.specs.Outcome.{gatesOf}
-use Rattle.circuit.proofs.Settled.{settled}
+use Rattle.circuit.specs.Invariant.{settled}
 use Rattle.aig.specs.declared.shape.Shape.{Shape}
 use Rattle.aig.specs.declared.walk.State.{State}
 use Rattle.aig.specs.declared.walk.State.the-variants.{Transfer, First, Second, Return, Reached, Stopped}
 use Rattle.ending.specs.declared.Walked.{Walked}
 use Rattle.ending.specs.declared.Walked.the-variants as Walked
 use Rattle.aig.specs.Layout.{stackOf}
-use Rattle.aig.specs.Going.{Going, Done, Over}
+use Rattle.aig.specs.Going.{Going, Done, Halted}
 
 -- a walk goes on from here
 pub record Walking (s : Shape) (gates : List ℕ) (state : State) (map out scratch : List ℕ) : Type 0 where
@@ -53,7 +53,7 @@ Turns s gates state map out scratch state′ map′ out′ scratch′ =
 -- a whole walk comes to what it came to
 abbrev pub Ended : Shape → List ℕ → List ℕ → Out → Walked → List ℕ → List ℕ → List ℕ → Type 0
 Ended s sources gates o (Walked.Reached made) map out scratch = Done s sources gates o made map out scratch
-Ended s sources gates o (Walked.Stopped why) map out scratch = Over s o (stopped why) map out scratch
+Ended s sources gates o (Walked.Stopped why) map out scratch = Halted s o (stopped why) map out scratch
 
 abbrev pub Runs : Shape → List ℕ → State → List ℕ → List ℕ → List ℕ → Walked → List ℕ → List ℕ → List ℕ → Type 0
 Runs s gates state map out scratch r map′ out′ scratch′ =

@@ -7,11 +7,11 @@ use lib.ListN.{length, getD}
 use Rattle.lit.specs.Code.{var}
 use Rattle.circuit.specs.Walk.{Work, Out, stopped, walkAll}
 use Rattle.circuit.specs.Outcome.{gatesOf}
-use Rattle.circuit.proofs.Invariant.{Inv}
+use Rattle.circuit.specs.Invariant.{Inv}
 use Rattle.aig.specs.declared.shape.Shape.{Shape}
 use Rattle.ending.specs.declared.Walked.{Walked}
 use Rattle.ending.specs.declared.Walked.the-variants.{Reached, Stopped}
-use Rattle.aig.specs.Going.{netOf, topOf, Ground, Holds, Over}
+use Rattle.aig.specs.Going.{netOf, topOf, Ground, Holds, Halted}
 
 -- the lists hold what was done, and with these literals still to be walked all comes to o
 pub record Waiting (s : Shape) (sources gates : List ℕ) (o : Out) (made : ℕ) (cs : List ℕ) (images out scratch : List ℕ) : Type 0 where
@@ -24,7 +24,7 @@ pub record Waiting (s : Shape) (sources gates : List ℕ) (o : Out) (made : ℕ)
 -- so it is after a walk that went well; else all comes to its refusal
 abbrev pub Waits : Shape → List ℕ → List ℕ → Out → List ℕ → Walked → List ℕ → List ℕ → List ℕ → Type 0
 Waits s sources gates o cs (Reached made) images out scratch = Waiting s sources gates o made cs images out scratch
-Waits s sources gates o cs (Stopped why) images out scratch = Over s o (stopped why) images out scratch
+Waits s sources gates o cs (Stopped why) images out scratch = Halted s o (stopped why) images out scratch
 
 -- every code of the list is one of the circuit's
 abbrev pub AllInside : Shape → List ℕ → Type 0

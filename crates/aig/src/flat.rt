@@ -3,7 +3,7 @@ ghost use mathlib.Core.Path.{_≡_};
 ghost use Prim.Native.Nat.{_+_, _*_, _<_};
 ghost use lib.ListN.{length};
 ghost use Rattle.lit.specs.Code.{literal};
-ghost use Rattle.circuit.proofs.Words.{gateAt};
+ghost use Rattle.circuit.specs.Claims.{gateAt};
 use lit::Lit;
 
 // The words of a gate; its output is the first.

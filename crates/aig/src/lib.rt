@@ -1,4 +1,4 @@
-// Renumbering of AIGER circuits over lent lists: literals get new codes so that a gate's code is larger than those of its inputs.
+// Renumbering of AIGER circuits in lent lists: literals get new codes so that a gate's code is larger than those of its inputs.
 mod fit;
 mod flat;
 mod order;

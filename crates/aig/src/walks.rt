@@ -1,6 +1,6 @@
 // Checks 5 and 6 and all walks of a circuit, in the fronts of lent lists.
 ghost use Rattle.circuit.specs.Circuit.{renumber};
-ghost use Rattle.checks.specs.Lending.{bare, circuitIn};
+ghost use Rattle.checks.specs.Bare.{bare, circuitIn};
 ghost use Rattle.aig.specs.Walked.{WalkIn, EndsIn};
 use crate::order;
 use crate::shape::Shape;

@@ -1,15 +1,16 @@
--- The checks, the records laid flat, and the rest come to the outcome with records. The checks on sizes and on the records say what those on the
--- records laid flat
--- say; where they pass, nothing below refusal 5 can be answered; and the words that the records took are the first of the sixth list. Assumes nothing.
-use Prim.Native.Nat.{ℕ, _+_, _*_, _%_}
+-- The checks, the records laid flat, and the rest come to the outcome with records. The checks on lengths and on the records say what those on the
+-- records laid flat say; where they pass, nothing below refusal 5 can be answered; and the words that the records took are the first of the
+-- sixth list. Assumes nothing.
+use Prim.Native.Nat.{ℕ, _+_, _*_, _/_, _%_, _≤_}
 use mathlib.Core.Path.{_≡_, refl, sym, ap, ap₂, _∙_, subst⁻¹}
 use mathlib.Core.Logic.{inl}
-use mathlib.Core.Bool.{Bool, true, false, not, cond, _||_, _&&_, true≢false}
+use mathlib.Core.Bool.{Bool, true, false, not, cond, _&&_, true≢false}
 use mathlib.Core.Option.{Option, none, some}
 use mathlib.Core.List.{List, [], _∷_, _++_}
 use native.Mathlib.Omega.{arith}
-use lib.Dec.{eqb, leb, ltb}
-use lib.ListN.{length, take, drop, length-replicate}
+use lib.Dec.{leb, ltb}
+use borrow.Author.Tests.{ltb-false}
+use lib.ListN.{length, take, drop, length-append, length-drop, length-replicate}
 use lib.Seq.{take-at, drop-at, take-length}
 use Rattle.lit.specs.Code.{literal}
 use Rattle.circuit.specs.declared.CircuitRecord.{CircuitRecord}
@@ -19,19 +20,21 @@ use Rattle.circuit.specs.declared.Refusal.the-variants.{TooBig, Misshapen, Shor
 use Rattle.circuit.specs.Refusals.{refusalNumber}
 use Rattle.circuit.specs.Walk.{Out, reached, stopped}
 use Rattle.circuit.specs.Circuit.{Circuit, gateCodes, latchCodes, codes, firstOver, renumber}
-use Rattle.circuit.specs.Outcome.{Lent, Outcome, lentOf, circuitOf, gatesOf, tooBig, misshapen, tooShort, conclusion, total, onto, zeros, untouched, cleared, outcome}
+use Rattle.circuit.specs.Outcome.{Lent, Outcome, lentOf, circuitOf, gatesOf, tooBig, misshapen, tooShort, conclusion, onto, zeros, untouched, cleared, outcome}
 use Rattle.circuit.specs.Tested.{Fits, Tested}
 use Rattle.circuit.specs.Graph.{In}
 use Rattle.circuit.proofs.Lists.{In-right}
-use Rattle.circuit.proofs.Outcome.{Concluded, concluded, bounds, refusal-of, success-of, conclusion-of}
+use Rattle.circuit.proofs.Outcome.{onto-long, Concluded, concluded, bounds, refusal-of, success-of, conclusion-of}
 use Rattle.aig_records.specs.declared.GateRecord.{GateRecord}
 use Rattle.checks.specs.declared.Check.{Check}
 use Rattle.checks.specs.declared.Check.the-variants.{Passed, Failed}
 use Rattle.aig_records.specs.declared.verdict.Checked.{Checked}
 use Rattle.aig_records.specs.declared.verdict.Rooms.{Rooms}
-use Rattle.aig_records.specs.Records.{recordWords, flatOf, laidOver}
-use Rattle.checks.specs.Checks.{found}
-use Rattle.aig_records.specs.Checks.{overLimit, unequal, lacks, orElse, firstIn, overIn, overAll, verdict, planned, checkedOf}
+use Rattle.aig_records.specs.Records.{recordWords, flatOf, laidOnto}
+use Rattle.checks.specs.declared.Lengths.{Lengths}
+use Rattle.checks.specs.Checks.{found, failIf, sizing, lengthsOf}
+use Rattle.checks.proofs.Sizes.{sizing-is}
+use Rattle.aig_records.specs.Checks.{lengthsWith, orElse, firstIn, overIn, overAll, verdict, planned, checkedOf}
 use Rattle.aig_records.specs.Outcome.{FlatOutcome, withFlat, flatShort, flatAfter, outcomeOfRecords, finished}
 use Rattle.aig_records.proofs.Flat.{flat-length}
 use Rattle.aig_records.proofs.Overs.{over-append}
@@ -44,10 +47,6 @@ flat-count (g ∷ gs) = omega (arith, flat-count gs)
 flat-codes : (gs : List GateRecord) → gateCodes (gatesOf (flatOf gs)) ≡ flatOf gs
 flat-codes [] = refl
 flat-codes (g ∷ gs) = ap (λ (l : List ℕ). recordWords g ++ l) (flat-codes gs)
-
-or-no : (b : Bool) → b || false ≡ b
-or-no true = refl
-or-no false = refl
 
 -- where checks 1 to 4 pass, the words that the records took are 0 afterwards
 module _ (l : Lent) (flat : List ℕ) (p : Tested l) where
@@ -110,14 +109,18 @@ module _ (l : Lent) (flat : List ℕ) where
   unfolding renumber
   stops-4 f c e = conclusion-of l f ∙ rw e
 
-  judged : outcomeOfRecords l flat ≡ finished (verdict (tooBig C) (misshapen l) (tooShort l C || ltb (length flat) (length (l .gates)))
+  judged : outcomeOfRecords l flat ≡ finished (verdict (sizing (l .circuit) (lengthsOf l)) (ltb (length flat) (length (l .gates)))
       (found (firstOver (2 * C .top + 1) (codes C)))) l flat
   unfolding outcomeOfRecords flatShort
-  judged = go (tooBig C) refl (misshapen l) refl (tooShort l C) refl (ltb (length flat) (length (l .gates))) (firstOver (2 * C .top + 1) (codes C)) refl
+  judged =
+      go (tooBig C) refl (misshapen l) refl (tooShort l C) refl (ltb (length flat) (length (l .gates))) (firstOver (2 * C .top + 1) (codes C)) refl
+      ∙ ap (λ (c : Check). finished (verdict c (ltb (length flat) (length (l .gates))) (found (firstOver (2 * C .top + 1) (codes C)))) l flat)
+      (sym (sizing-is l))
     where
       go : (b : Bool) → tooBig C ≡ b → (u : Bool) → misshapen l ≡ u → (s : Bool) → tooShort l C ≡ s → (f : Bool) → (o : Option ℕ)
           → firstOver (2 * C .top + 1) (codes C) ≡ o
-          → cond (not b && not u && f) (withFlat (untouched l Short) flat) plain ≡ finished (verdict b u (s || f) (found o)) l flat
+          → cond (not b && not u && f) (withFlat (untouched l Short) flat) plain
+          ≡ finished (verdict (failIf b TooBig (failIf u Misshapen (failIf s Short Passed))) f (found o)) l flat
       go true p u q s r f o e = early TooBig refl (stops-1 p)
       go false p true q s r f o e = early Misshapen refl (stops-2 p q)
       go false p false q true r true o e = refl
@@ -151,22 +154,28 @@ module _ (circuit : CircuitRecord) (inputs states nexts : List ℕ) (gates : Lis
   abbrev l : Lent
   l = lent (flatOf gates)
 
-  big-is : overLimit (circuit .top .0) (length inputs) (length states) (length gates) (length roots) ≡ tooBig (circuitOf l)
-  unfolding overLimit tooBig
-  big-is = ap (λ (g : ℕ). overLimit (circuit .top .0) (length inputs) (length states) g (length roots)) (sym (flat-count gates))
+  -- the lengths are those of the records laid flat
+  lengths-are : lengthsWith inputs states nexts roots (length gates) rooms ≡ lengthsOf l
+  lengths-are =
+      let third : length gates ≡ length (flatOf gates) / 3 = omega (arith, flat-length gates) in
+      let none-left : 0 ≡ length (flatOf gates) % 3 = omega (arith, flat-length gates) in
+      ap₂ (λ (g k : ℕ). record {
+        inputs = length inputs;
+        states = length states;
+        nexts = length nexts;
+        gates = g;
+        «left_over» = k;
+        roots = length roots;
+        map = length map;
+        «next_images» = length nextImages;
+        «root_images» = length rootImages;
+        «gates_out» = length gatesOut;
+        scratch = length scratch;
+      }) third none-left
 
-  uneven-is : unequal (circuit .counts) (length states) (length nexts) (length roots) ≡ misshapen l
-  unfolding unequal misshapen
-  uneven-is =
-      let two : Bool = not (eqb (total (circuit .counts)) (length roots)) || not (eqb (length states) (length nexts)) in
-      let whole : length (flatOf gates) % 3 ≡ 0 = omega (arith, flat-length gates) in sym (or-no two) ∙ ap (λ (k : ℕ). two || not (eqb k 0)) (sym whole)
-
-  short-is : lacks (circuit .top .0) (length states) (length gates) (length roots) rooms ≡ tooShort l (circuitOf l) || ltb (length flat) (length (flatOf gates))
-  unfolding lacks tooShort
+  short-is : ltb (length flat) (3 * length gates) ≡ ltb (length flat) (length (flatOf gates))
   short-is =
-      let words : 3 * length (gatesOf (flatOf gates)) ≡ length (flatOf gates) = omega (arith, flat-count gates, flat-length gates) in
-      ap (λ (g : ℕ). lacks (circuit .top .0) (length states) g (length roots) rooms) (sym (flat-count gates))
-      ∙ ap (λ (k : ℕ). tooShort l (circuitOf l) || ltb (length flat) k) words
+      let words : 3 * length gates ≡ length (flatOf gates) = omega (arith, flat-length gates) in ap (λ (k : ℕ). ltb (length flat) k) words
 
   first-is : overAll (circuit .top .0) inputs (overIn (circuit .top) gates) states nexts roots ≡ found
       (firstOver (2 * circuit .top .0 + 1) (codes (circuitOf l)))
@@ -180,40 +189,55 @@ module _ (circuit : CircuitRecord) (inputs states nexts : List ℕ) (gates : Lis
       ∙ ap₂ orElse (ap (firstIn t) (flat-codes gates)) (over-append t (latchCodes states nexts) roots)))
 
   abbrev says : Check
-  says =
-      verdict (tooBig (circuitOf l)) (misshapen l) (tooShort l (circuitOf l) || ltb (length flat) (length (flatOf gates)))
-      (found (firstOver (2 * circuit .top .0 + 1) (codes (circuitOf l))))
+  says = verdict (sizing circuit (lengthsOf l)) (ltb (length flat) (length (flatOf gates))) (found (firstOver (2 * circuit .top .0 + 1) (codes (circuitOf l))))
 
   checked-is : ck ≡ planned (length gates) says
   unfolding checkedOf
-  checked-is = λ i. planned (length gates) (verdict (big-is i) (uneven-is i) (short-is i) (first-is i))
+  checked-is = λ i. planned (length gates) (verdict (sizing circuit (lengths-are i)) (short-is i) (first-is i))
+
+  -- where they pass, the records' codes have room
+  room-for : says ≡ Passed → length (flatOf gates) ≤ length flat
+  room-for = go (sizing circuit (lengthsOf l)) (ltb (length flat) (length (flatOf gates))) refl
+    where
+      go : (c : Check) (s : Bool) → ltb (length flat) (length (flatOf gates)) ≡ s
+          → verdict c s (found (firstOver (2 * circuit .top .0 + 1) (codes (circuitOf l)))) ≡ Passed → length (flatOf gates) ≤ length flat
+      go (Failed why) s e k = absurd (let z : _≡_ {A = ℕ} 0 1 = cc in omega arith)
+      go Passed true e k = absurd (let z : _≡_ {A = ℕ} 0 1 = cc in omega arith)
+      go Passed false e k = ltb-false (length flat) (length (flatOf gates)) e
 
   -- what is left to do finds the records laid flat
-  laid-is : (c : Check) → finished (planned (length gates) c .check)
-      (lent (take (planned (length gates) c .laid * 3) (laidOver (planned (length gates) c .laid) gates flat)))
-      (laidOver (planned (length gates) c .laid) gates flat) ≡ finished c l flat
-  laid-is (Failed why) = refl
-  laid-is Passed =
+  laid-is : (c : Check) → (c ≡ Passed → length (flatOf gates) ≤ length flat) → finished (planned (length gates) c .check)
+      (lent (take (planned (length gates) c .laid * 3) (laidOnto (planned (length gates) c .laid) gates flat)))
+      (laidOnto (planned (length gates) c .laid) gates flat) ≡ finished c l flat
+  laid-is (Failed why) room = refl
+  laid-is Passed room =
+      let fits = room refl in
       let k = length gates * 3 in
       let m = length (flatOf gates) in
-      let zs : List ℕ = laidOver (length gates) gates flat in
+      let zs : List ℕ = laidOnto (length gates) gates flat in
       let long : m ≡ k = flat-length gates in
       let all : zs ≡ flatOf gates ++ drop k flat = ap (λ (gs : List GateRecord). flatOf gs ++ drop k flat) (take-length gates) in
       let front : take k zs ≡ flatOf gates = ap (take k) all ∙ take-at (flatOf gates) (drop k flat) k long in
       let as-long : length (zeros m) ≡ k = length-replicate m 0 ∙ long in
+      let zs-long : length zs ≡ length flat
+      = ap length all ∙ omega (arith, length-append (flatOf gates) (drop k flat), length-drop k flat, long) in
       let back : drop (length (zeros m)) zs ≡ drop (length (zeros m)) flat =
       (ap (λ (j : ℕ). drop j zs) as-long ∙ ap (drop k) all ∙ drop-at (flatOf gates) (drop k flat) k long ∙ sym (ap (λ (j : ℕ). drop j flat) as-long)) in
-      ap (λ (gs : List ℕ). finished Passed (lent gs) zs) front ∙ ap (λ (ws : List ℕ). withFlat (outcome l) (zeros m ++ ws)) back
+      ap (λ (gs : List ℕ). finished Passed (lent gs) zs) front
+      ∙ ap (withFlat (outcome l))
+      (onto-long (zeros m) zs (omega (arith, as-long)) ∙ ap (λ (ws : List ℕ). zeros m ++ ws) back ∙ sym (onto-long (zeros m) flat (omega (arith, as-long))))
 
-  pub joined : finished (ck .check) (lent (take (ck .laid * 3) (laidOver (ck .laid) gates flat))) (laidOver (ck .laid) gates flat) ≡ outcomeOfRecords l flat
+  pub joined : finished (ck .check) (lent (take (ck .laid * 3) (laidOnto (ck .laid) gates flat))) (laidOnto (ck .laid) gates flat) ≡ outcomeOfRecords l flat
   joined =
-      ap (λ (k : Checked). finished (k .check) (lent (take (k .laid * 3) (laidOver (k .laid) gates flat))) (laidOver (k .laid) gates flat)) checked-is
-      ∙ laid-is says ∙ sym (judged l flat)
+      ap (λ (k : Checked). finished (k .check) (lent (take (k .laid * 3) (laidOnto (k .laid) gates flat))) (laidOnto (k .laid) gates flat)) checked-is
+      ∙ laid-is says room-for ∙ sym (judged l flat)
 
 -- what is left where the checks have passed: the flat entry on the front of the list, which is then cleared
-pub finish-passed : (l : Lent) (flat : List ℕ) (n : ℕ) → length (l .gates) ≡ n → (check : Check) → check ≡ Passed → (o : Outcome) → o ≡ outcome l
-    → (ws : List ℕ) → ws ≡ zeros (length (l .gates)) → withFlat o (ws ++ drop n flat) ≡ finished check l flat
-finish-passed l flat n long check passed o answered ws cleared =
+pub finish-passed : (l : Lent) (flat : List ℕ) (n : ℕ) → length (l .gates) ≡ n → n ≤ length flat → (check : Check) → check ≡ Passed → (o : Outcome)
+    → o ≡ outcome l → (ws : List ℕ) → ws ≡ zeros (length (l .gates)) → withFlat o (ws ++ drop n flat) ≡ finished check l flat
+finish-passed l flat n long fits check passed o answered ws cleared =
     let as-long : length (zeros (length (l .gates))) ≡ n = length-replicate (length (l .gates)) 0 ∙ long in
-    ap₂ withFlat answered (ap₂ (λ (front back : List ℕ). front ++ back) cleared (ap (λ (k : ℕ). drop k flat) (sym as-long)))
+    ap₂ withFlat answered
+    (ap₂ (λ (front back : List ℕ). front ++ back) cleared (ap (λ (k : ℕ). drop k flat) (sym as-long))
+    ∙ sym (onto-long (zeros (length (l .gates))) flat (omega (arith, as-long))))
     ∙ sym (ap (λ (c : Check). finished c l flat) passed)

@@ -1,75 +1,56 @@
 -- The checks in turn: one law for each return of the code. Assumes nothing.
-use Prim.Native.Nat.{ℕ, _+_, _*_, _≤_}
+use Prim.Native.Nat.{ℕ, _+_, _*_, _/_, _<_, _≤_}
 use mathlib.Core.Path.{_≡_, refl, sym, ap, _∙_}
-use mathlib.Core.Bool.{Bool, true, false, not, _||_, true≢false}
+use mathlib.Core.Bool.{Bool, true, false}
 use mathlib.Core.List.{List}
 use native.Mathlib.Omega.{arith}
-use lib.Dec.{eqb, ltb}
-use lib.ListN.{length}
-use borrow.Author.Tests.{ltb-false, eqb-true, not-false}
+use lib.Dec.{ltb}
+use borrow.Author.Tests.{lt-ltb, le-ltb, ltb-false}
 use Rattle.lit.specs.declared.Lit.{Lit}
 use Rattle.circuit.specs.declared.CircuitRecord.{CircuitRecord}
-use Rattle.circuit.specs.declared.Refusal.the-variants.{TooBig, Misshapen, Short, Over}
-use Rattle.circuit.specs.Outcome.{limit, total}
+use Rattle.circuit.specs.declared.Refusal.{Refusal}
+use Rattle.circuit.specs.declared.Refusal.the-variants.{Short, Over}
 use Rattle.checks.specs.declared.Found.{Found}
 use Rattle.checks.specs.declared.Found.the-variants.{Literal, Nothing}
 use Rattle.checks.specs.declared.Check.{Check}
 use Rattle.checks.specs.declared.Check.the-variants.{Passed, Failed}
+use Rattle.checks.specs.declared.Lengths.{Lengths}
+use Rattle.checks.specs.Checks.{sizing}
 use Rattle.aig_records.specs.declared.verdict.Checked.{Checked}
 use Rattle.aig_records.specs.declared.verdict.Rooms.{Rooms}
-use Rattle.aig_records.specs.Checks.{overLimit, unequal, lacks, Small, overAll, refusing, planned, verdict, checkedOf}
-
-or-false : (a b : Bool) → a || b ≡ false → (a ≡ false) × (b ≡ false)
-or-false true b e = absurd (true≢false e)
-or-false false b e = (refl, e)
+use Rattle.aig_records.specs.Checks.{lengthsWith, overAll, refusing, planned, verdict, checkedOf}
 
 module _ (circuit : CircuitRecord) (inputs states nexts roots : List ℕ) (gates : ℕ) (first : Found) (rooms : Rooms) where
   abbrev whole : Checked
   whole = checkedOf circuit inputs states nexts roots gates first rooms
 
-  module _ (v : ℕ) (is-top : v ≡ circuit .top .0) (r₁ : Bool) (e₁ : r₁ ≡ overLimit v (length inputs) (length states) gates (length roots)) where
-    one : (b : Bool) → r₁ ≡ b → overLimit (circuit .top .0) (length inputs) (length states) gates (length roots) ≡ b
-    one b e = sym (ap (λ (n : ℕ). overLimit n (length inputs) (length states) gates (length roots)) is-top) ∙ sym e₁ ∙ e
+  module _ (n : Lengths) (e : n ≡ lengthsWith inputs states nexts roots gates rooms) (c : Check) (e₁ : c ≡ sizing circuit n) where
+    one : (k : Check) → c ≡ k → sizing circuit (lengthsWith inputs states nexts roots gates rooms) ≡ k
+    one k h = sym (ap (sizing circuit) e) ∙ sym e₁ ∙ h
 
-    pub judges-big : r₁ ≡ true → refusing TooBig ≡ whole
+    pub judges-sized : (why : Refusal) → c ≡ Failed why → refusing why ≡ whole
     unfolding checkedOf
-    judges-big t = rw (one true t)
+    judges-sized why h = rw (one (Failed why) h)
 
-    pub judges-small : r₁ ≡ false → Small v gates
-    unfolding overLimit
-    judges-small n =
-        let a = or-false _ _ (sym e₁ ∙ n) in
-        let b = or-false _ _ (a .0) in
-        let c = or-false _ _ (b .0) in
-        let d = or-false _ _ (c .0) in record { variables = ltb-false limit v (d .0); few = ltb-false limit gates (b .1) }
-
-    module _ (n₁ : r₁ ≡ false) (r₂ : Bool) (e₂ : r₂ ≡ unequal (circuit .counts) (length states) (length nexts) (length roots)) where
-      pub judges-uneven : r₂ ≡ true → refusing Misshapen ≡ whole
+    module _ (p : c ≡ Passed) where
+      pub judges-short : rooms .flat / 3 < gates → refusing Short ≡ whole
       unfolding checkedOf
-      judges-uneven t = rw (one false n₁, sym e₂ ∙ t)
+      judges-short h = rw (one Passed p, lt-ltb (rooms .flat) (3 * gates) (omega arith))
 
-      module _ (n₂ : r₂ ≡ false) (r₃ : Bool) (e₃ : r₃ ≡ lacks v (length states) gates (length roots) rooms) where
-        three : (b : Bool) → r₃ ≡ b → lacks (circuit .top .0) (length states) gates (length roots) rooms ≡ b
-        three b e = sym (ap (λ (n : ℕ). lacks n (length states) gates (length roots) rooms) is-top) ∙ sym e₃ ∙ e
-
-        pub judges-short : r₃ ≡ true → refusing Short ≡ whole
+      module _ (room : gates ≤ rooms .flat / 3) (f : Found) (e₄ : f ≡ overAll (circuit .top .0) inputs first states nexts roots) where
+        pub judges-over : (l : Lit) → f ≡ Literal l → refusing (Over l) ≡ whole
         unfolding checkedOf
-        judges-short t = rw (one false n₁, sym e₂ ∙ n₂, three true t)
+        judges-over l h = rw (one Passed p, le-ltb (rooms .flat) (3 * gates) (omega arith), sym e₄ ∙ h)
 
-        module _ (n₃ : r₃ ≡ false) (f : Found) (e₄ : f ≡ overAll (circuit .top .0) inputs first states nexts roots) where
-          pub judges-over : (l : Lit) → f ≡ Literal l → refusing (Over l) ≡ whole
-          unfolding checkedOf
-          judges-over l e = rw (one false n₁, sym e₂ ∙ n₂, three false n₃, sym e₄ ∙ e)
-
-          pub judges-passed : f ≡ Nothing → record { laid = gates; check = Passed } ≡ whole
-          unfolding checkedOf
-          judges-passed e = rw (one false n₁, sym e₂ ∙ n₂, three false n₃, sym e₄ ∙ e)
+        pub judges-passed : f ≡ Nothing → record { laid = gates; check = Passed } ≡ whole
+        unfolding checkedOf
+        judges-passed h = rw (one Passed p, le-ltb (rooms .flat) (3 * gates) (omega arith), sym e₄ ∙ h)
 
   -- no more records are laid than there are
   pub few-laid : whole .laid ≤ gates
   unfolding checkedOf
-  few-laid = go (verdict (overLimit (circuit .top .0) (length inputs) (length states) gates (length roots))
-      (unequal (circuit .counts) (length states) (length nexts) (length roots)) (lacks (circuit .top .0) (length states) gates (length roots) rooms)
+  few-laid =
+      go (verdict (sizing circuit (lengthsWith inputs states nexts roots gates rooms)) (ltb (rooms .flat) (3 * gates))
       (overAll (circuit .top .0) inputs first states nexts roots))
     where
       go : (c : Check) → planned gates c .laid ≤ gates
@@ -77,25 +58,14 @@ module _ (circuit : CircuitRecord) (inputs states nexts roots : List ℕ) (gates
       go (Failed why) = omega arith
 
   -- and their codes have room
-  room-of : lacks (circuit .top .0) (length states) gates (length roots) rooms ≡ false → 3 * gates ≤ rooms .flat
-  unfolding lacks
-  room-of n =
-      let five : Bool =
-      ltb (rooms .map) (circuit .top .0 + 1) || ltb (rooms .«next_images») (length states) || ltb (rooms .«root_images») (length roots) || ltb
-      (rooms .«gates_out») (2 * gates)
-      || ltb (rooms .scratch) (3 * circuit .top .0 + 3 + 3 * gates) in ltb-false (rooms .flat) (3 * gates) (or-false five (ltb (rooms .flat) (3 * gates)) n .1)
-
   pub laid-in-room : whole .laid * 3 ≤ rooms .flat
   unfolding checkedOf
   laid-in-room =
-      go (overLimit (circuit .top .0) (length inputs) (length states) gates (length roots))
-      (unequal (circuit .counts) (length states) (length nexts) (length roots))
-      (lacks (circuit .top .0) (length states) gates (length roots) rooms) refl (overAll (circuit .top .0) inputs first states nexts roots)
+      go (sizing circuit (lengthsWith inputs states nexts roots gates rooms)) (ltb (rooms .flat) (3 * gates)) refl
+      (overAll (circuit .top .0) inputs first states nexts roots)
     where
-      go : (b u s : Bool) → lacks (circuit .top .0) (length states) gates (length roots) rooms ≡ s → (f : Found)
-          → planned gates (verdict b u s f) .laid * 3 ≤ rooms .flat
-      go true u s e f = omega arith
-      go false true s e f = omega arith
-      go false false true e f = omega arith
-      go false false false e (Literal l) = omega arith
-      go false false false e Nothing = omega (arith, room-of e)
+      go : (c : Check) (s : Bool) → ltb (rooms .flat) (3 * gates) ≡ s → (f : Found) → planned gates (verdict c s f) .laid * 3 ≤ rooms .flat
+      go (Failed why) s e f = omega arith
+      go Passed true e f = omega arith
+      go Passed false e (Literal l) = omega arith
+      go Passed false e Nothing = omega (arith, ltb-false (rooms .flat) (3 * gates) e)

@@ -1,6 +1,5 @@
 pub mod Flat
 pub mod Overs
-pub mod Sizes
 pub mod Judging
 pub mod Turns
 pub mod Asked

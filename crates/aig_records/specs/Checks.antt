@@ -1,16 +1,16 @@
--- Checks 1 to 4 where the gates are records: of sizes, of lent lengths and of codes. Assumes nothing.
-use Prim.Native.Nat.{ℕ, _+_, _*_, _≤_}
-use mathlib.Core.Bool.{Bool, not, _||_}
+-- Checks 1 to 4 where the gates are records: those on lengths are the crate `checks`'. Assumes nothing.
+use Prim.Native.Nat.{ℕ, _+_, _*_}
+use mathlib.Core.Bool.{Bool}
 use mathlib.Core.List.{List}
-use lib.Dec.{eqb, ltb}
+use lib.Dec.{ltb}
 use lib.ListN.{length}
 use Rattle.lit.specs.declared.Var.{Var}
 use Rattle.circuit.specs.declared.CircuitRecord.{CircuitRecord}
 use Rattle.circuit.specs.declared.Refusal.{Refusal}
-use Rattle.circuit.specs.declared.Refusal.the-variants.{TooBig, Misshapen, Short, Over}
+use Rattle.circuit.specs.declared.Refusal.the-variants.{Short, Over}
 use Rattle.circuit.specs.Circuit.{latchCodes, firstOver}
-use Rattle.circuit.specs.Outcome.{limit, total}
-use Rattle.checks.specs.Checks.{found, failIf}
+use Rattle.checks.specs.Checks.{found, failIf, andThen, sizing}
+use Rattle.checks.specs.declared.Lengths.{Lengths}
 use Rattle.aig_records.specs.declared.GateRecord.{GateRecord}
 use Rattle.checks.specs.declared.Found.{Found}
 use Rattle.checks.specs.declared.Found.the-variants.{Literal, Nothing}
@@ -20,25 +20,22 @@ use Rattle.aig_records.specs.declared.verdict.Checked.{Checked}
 use Rattle.aig_records.specs.declared.verdict.Rooms.{Rooms}
 use Rattle.aig_records.specs.Records.{flatOf}
 
--- check 1: V, I, L, G or R is over the limit
-unfoldable pub overLimit : ℕ → ℕ → ℕ → ℕ → ℕ → Bool
-overLimit top inputs states gates roots = ltb limit top || ltb limit inputs || ltb limit states || ltb limit gates || ltb limit roots
-
--- check 2: the root counts or the latches do not agree; a record has three codes, so nothing is asked of the gates
-unfoldable pub unequal : List ℕ → ℕ → ℕ → ℕ → Bool
-unequal counts states nexts roots = not (eqb (total counts) roots) || not (eqb states nexts)
-
--- check 3: a lent list is too short, the one for the records' codes last
-unfoldable pub lacks : ℕ → ℕ → ℕ → ℕ → Rooms → Bool
-lacks top states gates roots rooms =
-    (ltb (rooms .map) (top + 1) || ltb (rooms .«next_images») states || ltb (rooms .«root_images») roots || ltb (rooms .«gates_out») (2 * gates)
-    || ltb (rooms .scratch) (3 * top + 3 + 3 * gates))
-    || ltb (rooms .flat) (3 * gates)
-
--- numbers for which the words of check 3 can be counted
-pub record Small (top gates : ℕ) : Type 0 where
-  pub variables : top ≤ limit
-  pub few : gates ≤ limit
+-- the lengths of all lists, where there are so many records, which leave no word over
+abbrev pub lengthsWith : List ℕ → List ℕ → List ℕ → List ℕ → ℕ → Rooms → Lengths
+lengthsWith inputs states nexts roots gates rooms =
+    record {
+      inputs = length inputs;
+      states = length states;
+      nexts = length nexts;
+      gates = gates;
+      «left_over» = 0;
+      roots = length roots;
+      map = rooms .map;
+      «next_images» = rooms .«next_images»;
+      «root_images» = rooms .«root_images»;
+      «gates_out» = rooms .«gates_out»;
+      scratch = rooms .scratch;
+    }
 
 -- check 4: a code over 2V + 1
 abbrev pub over : ℕ → ℕ → Bool
@@ -65,9 +62,9 @@ abbrev pub failAt : Found → Check
 failAt (Literal l) = Failed (Over l)
 failAt Nothing = Passed
 
--- the four in their order
-abbrev pub verdict : Bool → Bool → Bool → Found → Check
-verdict big uneven short first = failIf big TooBig (failIf uneven Misshapen (failIf short Short (failAt first)))
+-- after checks 1 to 3 on lengths: the list for the records' codes is too short, which is 3 too; then check 4
+abbrev pub verdict : Check → Bool → Found → Check
+verdict sizes short first = andThen sizes (failIf short Short (failAt first))
 
 -- all records are laid flat where the checks pass, and none else
 abbrev pub refusing : Refusal → Checked
@@ -81,6 +78,5 @@ planned gates (Failed why) = refusing why
 unfoldable pub checkedOf : CircuitRecord → List ℕ → List ℕ → List ℕ → List ℕ → ℕ → Found → Rooms → Checked
 checkedOf circuit inputs states nexts roots gates first rooms =
     planned gates
-    (verdict (overLimit (circuit .top .0) (length inputs) (length states) gates (length roots))
-    (unequal (circuit .counts) (length states) (length nexts) (length roots)) (lacks (circuit .top .0) (length states) gates (length roots) rooms)
+    (verdict (sizing circuit (lengthsWith inputs states nexts roots gates rooms)) (ltb (rooms .flat) (3 * gates))
     (overAll (circuit .top .0) inputs first states nexts roots))

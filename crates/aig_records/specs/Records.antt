@@ -19,9 +19,9 @@ abbrev pub flatOf : List GateRecord → List ℕ
 flatOf [] = []
 flatOf (g ∷ gs) = recordWords g ++ flatOf gs
 
--- words whose front is written over with the first gates, laid flat
-abbrev pub laidOver : ℕ → List GateRecord → List ℕ → List ℕ
-laidOver count gs ws = flatOf (take count gs) ++ drop (count * 3) ws
+-- the first gates, laid flat, onto the front of words
+abbrev pub laidOnto : ℕ → List GateRecord → List ℕ → List ℕ
+laidOnto count gs ws = flatOf (take count gs) ++ drop (count * 3) ws
 
 -- what stands past the end of a list of gates: nothing asks for it
 abbrev pub noGate : GateRecord

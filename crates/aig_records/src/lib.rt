@@ -1,4 +1,4 @@
-// Renumbering where the gates come as records, each an output and two inputs: a thin entry over the one for flat gates.
+// Renumbering where the gates come as records, each an output and two inputs: a thin entry on top of the one for flat gates.
 mod records;
 mod verdict;
 

@@ -3,7 +3,7 @@ ghost use mathlib.Core.Path.{_≡_};
 ghost use Prim.Native.Nat.{_*_, _≤_};
 ghost use lib.ListN.{length};
 ghost use mathlib.Core.List.{[], _∷_};
-ghost use Rattle.aig_records.specs.Records.{codesOf, laidOver};
+ghost use Rattle.aig_records.specs.Records.{codesOf, laidOnto};
 ghost use Rattle.aig_records.specs.Checks.{orElse, overIn};
 use crate::GateRecord;
 use crate::verdict::is_over;
@@ -75,7 +75,7 @@ pub fn first_over(gates: &[GateRecord], top: Var) -> Found
 // The codes of the first `count` records, one record after the other, in lent words.
 pub fn flatten(gates: &[GateRecord], count: usize, flat: &mut [u32])
     requires { ⌜ (count ≤ length (now gates)) × (count * 3 ≤ length (now flat)) ⌝ }
-    ensures { λ _. ⌜ now (flat .exit) ≡ laidOver count (now (gates .entry)) (now (flat .entry)) ⌝ }
+    ensures { λ _. ⌜ now (flat .exit) ≡ laidOnto count (now (gates .entry)) (now (flat .entry)) ⌝ }
 {
     let mut i: usize = 0;
     let mut k: usize = 0;

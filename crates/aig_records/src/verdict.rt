@@ -1,16 +1,14 @@
-// What is asked before a record is copied: checks 1 to 4 in their order, of the lists and of what was found in the records.
+// What is asked before a record is copied: checks 1 to 3 on lengths, the room for the records' codes, and check 4 with what was found in the records.
 ghost use mathlib.Core.Path.{_≡_};
-ghost use Rattle.aig_records.specs.Checks.{overLimit, unequal, lacks, Small, over, orElse, overAll, refusing, checkedOf};
+ghost use Rattle.aig_records.specs.Checks.{lengthsWith, over, orElse, overAll, refusing, checkedOf};
 use checks::Check;
 use checks::Found;
+use checks::Lengths;
 use circuit::CircuitRecord;
 use circuit::Refusal;
 use lent::words::wide;
 use lit::Lit;
 use lit::Var;
-
-// The largest V, I, L, G and R that are taken.
-const LIMIT: usize = 1048575;
 
 // What the checks say, and how many records are laid flat: none after a refusal.
 pub struct Checked {
@@ -28,54 +26,30 @@ pub struct Rooms {
     pub flat: usize,
 }
 
-fn too_big(top: usize, inputs: usize, states: usize, gates: usize, roots: usize) -> bool
-    ensures { λ r. ⌜ r ≡ overLimit top inputs states gates roots ⌝ }
+// The lengths of all lists; records leave no word over.
+fn lengths(
+    inputs: &[u32],
+    states: &[u32],
+    nexts: &[u32],
+    roots: &[u32],
+    gates: usize,
+    rooms: Rooms,
+) -> Lengths
+    ensures { λ r. ⌜ r ≡ lengthsWith (now (inputs .entry)) (now (states .entry)) (now (nexts .entry)) (now (roots .entry)) gates rooms ⌝ }
 {
-    if LIMIT < top {
-        return true;
+    Lengths {
+        inputs: inputs.len(),
+        states: states.len(),
+        nexts: nexts.len(),
+        gates,
+        left_over: 0,
+        roots: roots.len(),
+        map: rooms.map,
+        next_images: rooms.next_images,
+        root_images: rooms.root_images,
+        gates_out: rooms.gates_out,
+        scratch: rooms.scratch,
     }
-    if LIMIT < inputs {
-        return true;
-    }
-    if LIMIT < states {
-        return true;
-    }
-    if LIMIT < gates {
-        return true;
-    }
-    LIMIT < roots
-}
-
-fn is_unequal(circuit: CircuitRecord, states: usize, nexts: usize, roots: usize) -> bool
-    ensures { λ r. ⌜ r ≡ unequal (circuit .counts) states nexts roots ⌝ }
-{
-    let counts = circuit.counts;
-    if checks::sum(counts) != roots {
-        return true;
-    }
-    states != nexts
-}
-
-fn is_short(top: usize, states: usize, gates: usize, roots: usize, rooms: Rooms) -> bool
-    requires { ⌜ Small top gates ⌝ }
-    ensures { λ r. ⌜ r ≡ lacks top states gates roots rooms ⌝ }
-{
-    if rooms.map < top + 1 {
-        return true;
-    }
-    if rooms.next_images < states {
-        return true;
-    }
-    if rooms.root_images < roots {
-        return true;
-    }
-    if rooms.gates_out < 2 * gates {
-        return true;
-    }
-    if rooms.scratch < 3 * top + 3 + 3 * gates {
-        return true;
-    }
-    rooms.flat < 3 * gates
 }
 
 // What was found before, or else what was found after.
@@ -135,23 +109,22 @@ pub fn judge(
 ) -> Checked
     ensures { λ r. ⌜ r ≡ checkedOf circuit (now (inputs .entry)) (now (states .entry)) (now (nexts .entry)) (now (roots .entry)) gates found rooms ⌝ }
 {
-    let top = circuit.top;
-    let v = wide(top.index());
-    if too_big(v, inputs.len(), states.len(), gates, roots.len()) {
-        return refused(Refusal::TooBig);
-    }
-    if is_unequal(circuit, states.len(), nexts.len(), roots.len()) {
-        return refused(Refusal::Misshapen);
-    }
-    if is_short(v, states.len(), gates, roots.len(), rooms) {
-        return refused(Refusal::Short);
-    }
-    let first = over_all(top, inputs, found, states, nexts, roots);
-    match first {
-        Found::Literal(lit) => refused(Refusal::Over(lit)),
-        Found::Nothing => Checked {
-            laid: gates,
-            check: Check::Passed,
-        },
+    let n = lengths(inputs, states, nexts, roots, gates, rooms);
+    let sizes = checks::sized(circuit, n);
+    match sizes {
+        Check::Failed(why) => refused(why),
+        Check::Passed => {
+            if rooms.flat / 3 < gates {
+                return refused(Refusal::Short);
+            }
+            let first = over_all(circuit.top, inputs, found, states, nexts, roots);
+            match first {
+                Found::Literal(lit) => refused(Refusal::Over(lit)),
+                Found::Nothing => Checked {
+                    laid: gates,
+                    check: Check::Passed,
+                },
+            }
+        }
     }
 }

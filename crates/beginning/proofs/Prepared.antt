@@ -6,10 +6,9 @@ use native.Mathlib.Omega.{arith}
 use lib.ListN.{length, take, drop, length-append, length-take, length-drop}
 use borrow.Author.Tests.{lt-ltb, le-ltb}
 use Rattle.circuit.specs.declared.Refusal.the-variants.{Short}
-use Rattle.circuit.specs.Outcome.{gatesOf, zeros}
+use Rattle.circuit.specs.Outcome.{gatesOf, zeros, onto}
 use Rattle.checks.specs.declared.Check.{Check}
 use Rattle.checks.specs.declared.Check.the-variants.{Failed}
-use Rattle.lent.specs.Over.{over}
 use Rattle.images.specs.Begin.{begun}
 use Rattle.defs.specs.Define.{Judged, judged, defineAll}
 use Rattle.beginning.specs.Beginning.{Ready, readyOf, cleaned, withTable, prepared}
@@ -32,7 +31,7 @@ module _ (top : ℕ) (inputs states gates map out scratch : List ℕ) {v : ℕ} 
       rw (le-ltb (length map) (top + 1) i, lt-ltb (length scratch) (top + 1) k)
 
   pub prepares : v + 1 ≤ length map → v + 1 ≤ length scratch → (r : Check) (m o s t : List ℕ) → m ≡ begun (take (v + 1) map) inputs states
-      → o ≡ over (zeros (2 * (length gates / 3))) out → s ≡ over (zeros (3 * (v + 1) + 3 * (length gates / 3))) scratch
+      → o ≡ onto (zeros (2 * (length gates / 3))) out → s ≡ onto (zeros (3 * (v + 1) + 3 * (length gates / 3))) scratch
       → judged t r ≡ defineAll (take (v + 1) s) inputs states (gatesOf gates)
       → readyOf r (m ++ drop (v + 1) map) o (t ++ drop (v + 1) s) ≡ prepared top inputs states gates map out scratch
   unfolding prepared

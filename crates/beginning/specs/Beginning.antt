@@ -5,10 +5,9 @@ use mathlib.Core.List.{List, _++_}
 use lib.Dec.{ltb}
 use lib.ListN.{length, take, drop}
 use Rattle.circuit.specs.declared.Refusal.the-variants.{Short}
-use Rattle.circuit.specs.Outcome.{gatesOf, zeros}
+use Rattle.circuit.specs.Outcome.{gatesOf, zeros, onto}
 use Rattle.checks.specs.declared.Check.{Check}
 use Rattle.checks.specs.declared.Check.the-variants.{Failed}
-use Rattle.lent.specs.Over.{over}
 use Rattle.images.specs.Begin.{begun}
 use Rattle.defs.specs.Define.{Judged, defineAll}
 
@@ -24,12 +23,12 @@ readyOf said map out scratch = record { said = said; map = map; out = out; scrat
 
 -- the scratch, clean as far as it is named: three words a variable, and three a gate
 abbrev pub cleaned : ℕ → List ℕ → List ℕ → List ℕ
-cleaned n gates scratch = over (zeros (3 * n + 3 * (length gates / 3))) scratch
+cleaned n gates scratch = onto (zeros (3 * n + 3 * (length gates / 3))) scratch
 
 -- the map at the start in the first n words of the map, zeros for the gates, and the table of definitions in the first n words of the scratch
 abbrev pub withTable : ℕ → Judged → List ℕ → List ℕ → List ℕ → List ℕ → List ℕ → List ℕ → Ready
 withTable n J inputs states gates map out scratch =
-    readyOf (J .said) (begun (take n map) inputs states ++ drop n map) (over (zeros (2 * (length gates / 3))) out)
+    readyOf (J .said) (begun (take n map) inputs states ++ drop n map) (onto (zeros (2 * (length gates / 3))) out)
     (J .words ++ drop n (cleaned n gates scratch))
 
 -- the whole, where the largest variable is `top`

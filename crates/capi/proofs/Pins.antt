@@ -5,7 +5,7 @@ use mathlib.Core.Path.{_≡_, refl}
 use mathlib.Core.Bool.{Bool, true, false}
 use mathlib.Core.List.{List, [], _∷_, _++_}
 use lib.ListN.{replicate}
-use Rattle.lit.specs.Code.{variable, literal, flipped}
+use Rattle.lit.specs.Code.{isOdd, variable, literal, flipped}
 use Rattle.circuit.specs.declared.CircuitRecord.{CircuitRecord}
 use Rattle.circuit.specs.declared.Refusal.the-variants.{TooBig, Deep}
 use Rattle.circuit.specs.declared.Answer.the-variants.{Renumbered, Refused}
@@ -37,6 +37,7 @@ pub flags-told :
     × (recordOf 3 (5 ∷ 6 ∷ []) 2 ≡ numbers false true false) × (recordOf 3 (5 ∷ 6 ∷ []) 3 ≡ numbers true true false)
     × (recordOf 3 (5 ∷ 6 ∷ []) 4 ≡ numbers false false true) × (recordOf 3 (5 ∷ 6 ∷ []) 5 ≡ numbers true false true)
     × (recordOf 3 (5 ∷ 6 ∷ []) 6 ≡ numbers false true true) × (recordOf 3 (5 ∷ 6 ∷ []) 7 ≡ numbers true true true)
+unfolding isOdd
 flags-told = (refl, refl, refl, refl, refl, refl, refl, refl)
 
 -- 2. A small circuit, and what comes before the library's checks.
@@ -64,7 +65,7 @@ pub circuits-shown :
     × (smallSeen (1 ∷ 0 ∷ 0 ∷ 0 ∷ 0 ∷ 0 ∷ []) 0 (9 ∷ 9 ∷ 9 ∷ 9 ∷ []) ≡ smallLeft 2 (0 ∷ 0 ∷ 0 ∷ 9 ∷ []))
     -- two answer words: 3, tested before the flags
     × (smallSeen (1 ∷ 0 ∷ 0 ∷ 0 ∷ 0 ∷ []) 8 (9 ∷ 9 ∷ []) ≡ smallLeft 3 (9 ∷ 9 ∷ []))
-unfolding renumberSeen misgiven outcome conclusion tooBig misshapen tooShort after renumber codes walkAll walked start store flipped walk look imageIn
+unfolding isOdd renumberSeen misgiven outcome conclusion tooBig misshapen tooShort after renumber codes walkAll walked start store flipped walk look imageIn
     entryImage throughInputs settle settleOn settleAs already nextCode firstCode folded codeOf orderedOf imagesIn
 circuits-shown = (refl, refl, refl, refl, refl)
 
@@ -137,7 +138,7 @@ pub settings-pinned :
     × (call 11 counts 7 inputs states nexts gates roots
     ≡ answered 2 7 (0 ∷ 4 ∷ 2 ∷ 7 ∷ 10 ∷ 8 ∷ 15 ∷ gone ∷ 14 ∷ 12 ∷ 14 ∷ gone ∷ []) (13 ∷ 14 ∷ []) (14 ∷ 15 ∷ 12 ∷ 5 ∷ [])
     (11 ∷ 8 ∷ 4 ∷ 2 ∷ 0 ∷ 0 ∷ 0 ∷ 0 ∷ 0 ∷ 0 ∷ []))
-unfolding renumberSeen misgiven outcome conclusion tooBig misshapen tooShort after renumber codes walkAll walked start store flipped walk look imageIn
+unfolding isOdd renumberSeen misgiven outcome conclusion tooBig misshapen tooShort after renumber codes walkAll walked start store flipped walk look imageIn
     entryImage throughInputs settle settleOn settleAs already nextCode firstCode folded codeOf orderedOf imagesIn
 settings-pinned = (refl, refl, refl, refl, refl, refl, refl, refl)
 
@@ -176,7 +177,7 @@ pub refusals-pinned :
     × (call 11 counts 7 inputs states nexts (20 ∷ 2 ∷ 4 ∷ 13 ∷ 4 ∷ 2 ∷ 16 ∷ 20 ∷ 1 ∷ 18 ∷ 10 ∷ 15 ∷ 22 ∷ 18 ∷ 13 ∷ []) roots ≡ clear 7 15)
     -- 8: gate 20(2,17), where 16(20,1)
     × (call 11 counts 7 inputs states nexts (20 ∷ 2 ∷ 17 ∷ 13 ∷ 4 ∷ 2 ∷ 16 ∷ 20 ∷ 1 ∷ 18 ∷ 10 ∷ 9 ∷ 22 ∷ 18 ∷ 13 ∷ []) roots ≡ clear 8 17)
-unfolding renumberSeen misgiven outcome conclusion tooBig misshapen tooShort after renumber codes walkAll walked start store flipped walk look imageIn
+unfolding isOdd renumberSeen misgiven outcome conclusion tooBig misshapen tooShort after renumber codes walkAll walked start store flipped walk look imageIn
     entryImage throughInputs settle settleOn settleAs already nextCode firstCode folded codeOf orderedOf imagesIn
 refusals-pinned = (refl, refl, refl, refl, refl, refl, refl, refl, refl, refl, refl, refl, refl, refl)
 
@@ -210,7 +211,7 @@ pub rooms-pinned :
     × (lends 8 12 2 4 10 51 (26 ∷ 27 ∷ []) ≡ keeps 3 12 2 4 10 51 (26 ∷ 27 ∷ []))
     -- flags 8 before a list that is too short: 2
     × (lends 8 11 2 4 10 51 (26 ∷ 27 ∷ 28 ∷ []) ≡ keeps 2 11 2 4 10 51 (0 ∷ 0 ∷ 0 ∷ []))
-unfolding renumberSeen misgiven outcome conclusion tooBig misshapen tooShort after renumber codes walkAll walked start store flipped walk look imageIn
+unfolding isOdd renumberSeen misgiven outcome conclusion tooBig misshapen tooShort after renumber codes walkAll walked start store flipped walk look imageIn
     entryImage throughInputs settle settleOn settleAs already nextCode firstCode folded codeOf orderedOf imagesIn
 rooms-pinned = (refl, refl, refl, refl, refl, refl, refl, refl, refl, refl)
 

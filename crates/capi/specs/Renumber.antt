@@ -1,10 +1,10 @@
 -- What the C entry for renumbering answers, and what it leaves in each lent list. Assumes nothing.
-use Prim.Native.Nat.{ℕ, _/_, _%_}
+use Prim.Native.Nat.{ℕ, _/_}
 use mathlib.Core.Bool.{Bool, cond, not, _||_}
 use mathlib.Core.List.{List, [], _∷_}
 use lib.Dec.{eqb, ltb}
 use lib.ListN.{length}
-use Rattle.lit.specs.Code.{variable}
+use Rattle.lit.specs.Code.{isOdd, variable}
 use Rattle.circuit.specs.declared.Refusal.the-variants.{Misshapen}
 use Rattle.circuit.specs.declared.Answer.{Answer}
 use Rattle.circuit.specs.declared.Answer.the-variants.{Renumbered, Refused}
@@ -34,14 +34,10 @@ seenOf number map nextImages rootImages gatesOut scratch words =
       words = words;
     }
 
--- a flag is set where its bit is 1
-abbrev pub isSet : ℕ → Bool
-isSet n = eqb (n % 2) 1
-
 -- the circuit but for its lists, from C's numbers; the flags are trim 1, hash 2, fold 4
 abbrev pub recordOf : ℕ → List ℕ → ℕ → CircuitRecord
 recordOf top counts flags =
-    record { top = variable top; counts = counts; trim = isSet flags; hash = isSet (flags / 2); fold = isSet (flags / 4) }
+    record { top = variable top; counts = counts; trim = isOdd flags; hash = isOdd (flags / 2); fold = isOdd (flags / 4) }
 
 -- what C sees when a call returns, as the contract writes it down, a field a line
 abbrev pub seen : Seen → Seen

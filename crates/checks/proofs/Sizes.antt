@@ -1,27 +1,28 @@
--- Laws of checks 1 to 3 in the code's own terms: one for each return. Assumes nothing.
+-- Laws of checks 1 to 3 in the code's own terms, one for each return; and that on lengths they say what they say on lists. Assumes nothing.
 use Prim.Native.Nat.{ℕ, _+_, _*_, _/_, _%_, _^_, _<_, _≤_}
 use mir.Syntax.{w64}
 use mir.Val.{Fits}
-use mathlib.Core.Path.{_≡_, refl, sym, _∙_}
-use mathlib.Core.Bool.{Bool, true, false, not}
+use mathlib.Core.Path.{_≡_, refl, sym, ap, _∙_}
+use mathlib.Core.Bool.{Bool, true, false, not, _||_, true≢false}
 use mathlib.Core.Option.{Option, none, some}
 use mathlib.Core.List.{List, [], _∷_}
 use native.Mathlib.Omega.{arith}
 use lib.Dec.{ltb, eqb}
 use lib.ListN.{length, getD}
-use borrow.Author.Tests.{le-ltb, lt-ltb, eq-eqb, ne-eqb}
+use borrow.Author.Tests.{le-ltb, lt-ltb, ltb-false, eq-eqb, ne-eqb, eqb-true, not-false}
 use Rattle.lit.specs.declared.Lit.{Lit}
+use Rattle.circuit.specs.declared.CircuitRecord.{CircuitRecord}
+use Rattle.circuit.specs.declared.Refusal.{Refusal}
 use Rattle.circuit.specs.declared.Refusal.the-variants.{TooBig, Misshapen, Short, Over}
-use Rattle.circuit.specs.Circuit.{Circuit, codes, firstOver}
-use Rattle.circuit.specs.Outcome.{Lent, lentOf, circuitOf, limit, tooBig, total, misshapen, tooShort}
+use Rattle.circuit.specs.Circuit.{codes, firstOver}
+use Rattle.circuit.specs.Outcome.{Lent, circuitOf, limit, tooBig, total, misshapen, tooShort}
 use Rattle.circuit.proofs.Words.{gates-length}
-use Rattle.circuit.proofs.Outcome.{agrees}
 use Rattle.checks.specs.declared.Found.{Found}
 use Rattle.checks.specs.declared.Found.the-variants.{Literal, Nothing}
 use Rattle.checks.specs.declared.Check.{Check}
 use Rattle.checks.specs.declared.Check.the-variants.{Passed, Failed}
-use Rattle.checks.specs.Lending.{circuitIn}
-use Rattle.checks.specs.Checks.{found, failAt, passing, Shaped}
+use Rattle.checks.specs.declared.Lengths.{Lengths}
+use Rattle.checks.specs.Checks.{found, failIf, failAt, andThen, overLimit, unequal, lacks, Small, sizing, lengthsOf, passing, Shaped}
 
 -- five counts
 total-five : (l : List ℕ) → length l ≡ 5 → getD l 0 0 + (getD l 1 0 + (getD l 2 0 + (getD l 3 0 + getD l 4 0))) ≡ total l
@@ -37,159 +38,207 @@ pub sums : (l : List ℕ) → length l ≡ 5 → {a b c d f : ℕ} → a ≡ get
     → a + (b + (c + (d + f))) ≡ total l
 sums l e p q r s t = rw (p, q, r, s, t) (total-five l e)
 
--- sums of a word v, and of a third of n words of a list, fit 64 bits
+-- check 4's bound fits 64 bits
 module _ {v i : ℕ} (e : v ≡ i) (f : i < 2 ^ 32) where
-  pub fits-next : Fits w64 (v + 1)
-  fits-next = record { fits = omega arith }
-
   pub fits-twice : Fits w64 (2 * v)
   fits-twice = record { fits = omega arith }
 
   pub fits-bound : Fits w64 (2 * v + 1)
   fits-bound = record { fits = omega arith }
 
-  pub fits-thrice : Fits w64 (3 * v)
-  fits-thrice = record { fits = omega arith }
-
-  pub fits-table : Fits w64 (3 * v + 3)
-  fits-table = record { fits = omega arith }
-
-  pub fits-scratch : (n : ℕ) → n * 4 < 2 ^ 63 → Fits w64 (3 * v + 3 + 3 * (n / 3))
-  fits-scratch n h = record { fits = omega arith }
-
-pub fits-pairs : (n : ℕ) → n * 4 < 2 ^ 63 → Fits w64 (2 * (n / 3))
-fits-pairs n h = record { fits = omega arith }
-
-pub fits-triples : (n : ℕ) → n * 4 < 2 ^ 63 → Fits w64 (3 * (n / 3))
-fits-triples n h = record { fits = omega arith }
-
 -- check 1
+module _ (v : ℕ) (n : Lengths) where
+  pub big-top : limit < v → true ≡ overLimit v n
+  unfolding overLimit
+  big-top h = simp (lt-ltb _ _ h)
+
+  module _ (a : v ≤ limit) where
+    pub big-inputs : limit < n .inputs → true ≡ overLimit v n
+    unfolding overLimit
+    big-inputs h = simp (le-ltb _ _ a, lt-ltb _ _ h)
+
+    module _ (b : n .inputs ≤ limit) where
+      pub big-states : limit < n .states → true ≡ overLimit v n
+      unfolding overLimit
+      big-states h = simp (le-ltb _ _ a, le-ltb _ _ b, lt-ltb _ _ h)
+
+      module _ (c : n .states ≤ limit) where
+        pub big-gates : limit < n .gates → true ≡ overLimit v n
+        unfolding overLimit
+        big-gates h = simp (le-ltb _ _ a, le-ltb _ _ b, le-ltb _ _ c, lt-ltb _ _ h)
+
+        pub big-roots : n .gates ≤ limit → ltb limit (n .roots) ≡ overLimit v n
+        unfolding overLimit
+        big-roots h = simp (le-ltb _ _ a, le-ltb _ _ b, le-ltb _ _ c, le-ltb _ _ h)
+
+-- check 2
+module _ (counts : List ℕ) (n : Lengths) (sum : ℕ) (isTotal : sum ≡ total counts) where
+  pub shape-counts : (sum ≡ n .roots → ⊥) → true ≡ unequal counts n
+  unfolding unequal
+  shape-counts k = rw (ne-eqb (total counts) (n .roots) (λ e. k (isTotal ∙ e)))
+
+  module _ (e : sum ≡ n .roots) where
+    pub shape-latches : (n .states ≡ n .nexts → ⊥) → true ≡ unequal counts n
+    unfolding unequal
+    shape-latches k = rw (eq-eqb (total counts) (n .roots) (sym isTotal ∙ e), ne-eqb (n .states) (n .nexts) k)
+
+    pub shape-gates : n .states ≡ n .nexts → not (eqb (n .«left_over») 0) ≡ unequal counts n
+    unfolding unequal
+    shape-gates k = rw (eq-eqb (total counts) (n .roots) (sym isTotal ∙ e), eq-eqb (n .states) (n .nexts) k)
+
+-- check 3
+module _ (v : ℕ) (n : Lengths) where
+  pub short-map : n .map < v + 1 → true ≡ lacks v n
+  unfolding lacks
+  short-map h = rw (lt-ltb (n .map) (v + 1) h)
+
+  module _ (a : v + 1 ≤ n .map) where
+    pub short-nexts : n .«next_images» < n .states → true ≡ lacks v n
+    unfolding lacks
+    short-nexts h = rw (le-ltb (n .map) (v + 1) a, lt-ltb (n .«next_images») (n .states) h)
+
+    module _ (b : n .states ≤ n .«next_images») where
+      pub short-roots : n .«root_images» < n .roots → true ≡ lacks v n
+      unfolding lacks
+      short-roots h = rw (le-ltb (n .map) (v + 1) a, le-ltb (n .«next_images») (n .states) b, lt-ltb (n .«root_images») (n .roots) h)
+
+      module _ (c : n .roots ≤ n .«root_images») where
+        pub short-gates : n .«gates_out» < 2 * n .gates → true ≡ lacks v n
+        unfolding lacks
+        short-gates h =
+            rw (
+              le-ltb (n .map) (v + 1) a,
+              le-ltb (n .«next_images») (n .states) b,
+              le-ltb (n .«root_images») (n .roots) c,
+              lt-ltb (n .«gates_out») (2 * n .gates) h,
+            )
+
+        pub short-scratch : 2 * n .gates ≤ n .«gates_out» → ltb (n .scratch) (3 * v + 3 + 3 * n .gates) ≡ lacks v n
+        unfolding lacks
+        short-scratch h =
+            rw (
+              le-ltb (n .map) (v + 1) a,
+              le-ltb (n .«next_images») (n .states) b,
+              le-ltb (n .«root_images») (n .roots) c,
+              le-ltb (n .«gates_out») (2 * n .gates) h,
+            )
+
+or-false : (a b : Bool) → a || b ≡ false → (a ≡ false) × (b ≡ false)
+or-false true b e = absurd (true≢false e)
+or-false false b e = (refl, e)
+
+-- checks 1 to 3 in turn, each as its function answers it
+module _ (circuit : CircuitRecord) (n : Lengths) (v : ℕ) (isTop : v ≡ circuit .top .0) (r₁ : Bool) (e₁ : r₁ ≡ overLimit v n) where
+  one : (b : Bool) → r₁ ≡ b → overLimit (circuit .top .0) n ≡ b
+  one b e = sym (ap (λ (k : ℕ). overLimit k n) isTop) ∙ sym e₁ ∙ e
+
+  pub sizes-big : r₁ ≡ true → Failed TooBig ≡ sizing circuit n
+  unfolding sizing
+  sizes-big t = rw (one true t)
+
+  pub sizes-small : r₁ ≡ false → Small v n
+  unfolding overLimit
+  sizes-small k =
+      let a = or-false _ _ (sym e₁ ∙ k) in
+      let b = or-false _ _ (a .0) in
+      let c = or-false _ _ (b .0) in
+      let d = or-false _ _ (c .0) in record { variables = ltb-false limit v (d .0); few = ltb-false limit (n .gates) (b .1) }
+
+  module _ (n₁ : r₁ ≡ false) (r₂ : Bool) (e₂ : r₂ ≡ unequal (circuit .counts) n) where
+    pub sizes-uneven : r₂ ≡ true → Failed Misshapen ≡ sizing circuit n
+    unfolding sizing
+    sizes-uneven t = rw (one false n₁, sym e₂ ∙ t)
+
+    module _ (n₂ : r₂ ≡ false) (r₃ : Bool) (e₃ : r₃ ≡ lacks v n) where
+      three : (b : Bool) → r₃ ≡ b → lacks (circuit .top .0) n ≡ b
+      three b e = sym (ap (λ (k : ℕ). lacks k n) isTop) ∙ sym e₃ ∙ e
+
+      pub sizes-short : r₃ ≡ true → Failed Short ≡ sizing circuit n
+      unfolding sizing
+      sizes-short t = rw (one false n₁, sym e₂ ∙ n₂, three true t)
+
+      pub sizes-pass : r₃ ≡ false → Passed ≡ sizing circuit n
+      unfolding sizing
+      sizes-pass k = rw (one false n₁, sym e₂ ∙ n₂, three false k)
+
+-- what passes them agrees
+pub sizing-shaped : (circuit : CircuitRecord) (n : Lengths) → sizing circuit n ≡ Passed → (n .states ≡ n .nexts) × (n .«left_over» ≡ 0)
+unfolding sizing unequal
+sizing-shaped circuit n e =
+    go (overLimit (circuit .top .0) n)
+    (not (eqb (total (circuit .counts)) (n .roots)) || not (eqb (n .states) (n .nexts)) || not (eqb (n .«left_over») 0)) refl
+    (lacks (circuit .top .0) n) e
+  where
+    go : (a b : Bool) → not (eqb (total (circuit .counts)) (n .roots)) || not (eqb (n .states) (n .nexts)) || not (eqb (n .«left_over») 0) ≡ b → (c : Bool)
+        → failIf a TooBig (failIf b Misshapen (failIf c Short Passed)) ≡ Passed → (n .states ≡ n .nexts) × (n .«left_over» ≡ 0)
+    go true b q c k = absurd (let z : _≡_ {A = ℕ} 0 1 = cc in omega arith)
+    go false true q c k = absurd (let z : _≡_ {A = ℕ} 0 1 = cc in omega arith)
+    go false false q c k =
+        let counts = not (eqb (total (circuit .counts)) (n .roots)) in
+        let latches = not (eqb (n .states) (n .nexts)) in
+        let two = or-false (counts || latches) (not (eqb (n .«left_over») 0)) q in
+        let one = or-false counts latches (two .0) in (
+          eqb-true (n .states) (n .nexts) (not-false (eqb (n .states) (n .nexts)) (one .1)),
+          eqb-true (n .«left_over») 0 (not-false (eqb (n .«left_over») 0) (two .1)),
+        )
+
+-- checks 1 to 3 on lengths say what those on the lists say
 module _ (l : Lent) where
-  abbrev C : Circuit
-  C = circuitOf l
+  big-is : overLimit (circuitOf l .top) (lengthsOf l) ≡ tooBig (circuitOf l)
+  unfolding overLimit tooBig
+  big-is = rw (gates-length (l .gates))
 
-  module _ {top : ℕ} (isTop : top ≡ C .top) where
-    pub big-top : limit < top → true ≡ tooBig C
-    unfolding tooBig
-    big-top h = let k : limit < C .top = omega arith in simp (lt-ltb _ _ k)
+  short-is : lacks (circuitOf l .top) (lengthsOf l) ≡ tooShort l (circuitOf l)
+  unfolding lacks tooShort
+  short-is = rw (gates-length (l .gates))
 
-    module _ (v : top ≤ limit) where
-      within : C .top ≤ limit
-      within = omega arith
+  uneven-is : unequal (l .circuit .counts) (lengthsOf l) ≡ misshapen l
+  unfolding unequal misshapen
+  uneven-is = refl
 
-      pub big-inputs : limit < length (l .inputs) → true ≡ tooBig C
-      unfolding tooBig
-      big-inputs h = simp (le-ltb _ _ within, lt-ltb _ _ h)
+  pub sizing-is : sizing (l .circuit) (lengthsOf l)
+      ≡ failIf (tooBig (circuitOf l)) TooBig (failIf (misshapen l) Misshapen (failIf (tooShort l (circuitOf l)) Short Passed))
+  unfolding sizing
+  sizing-is = rw (big-is, uneven-is, short-is)
 
-      module _ (i : length (l .inputs) ≤ limit) where
-        pub big-states : limit < length (l .states) → true ≡ tooBig C
-        unfolding tooBig
-        big-states h = simp (le-ltb _ _ within, le-ltb _ _ i, lt-ltb _ _ h)
+  -- so what check 4 says comes after them
+  in-turn : passing l ≡ andThen (sizing (l .circuit) (lengthsOf l)) (failAt (firstOver (2 * circuitOf l .top + 1) (codes (circuitOf l))) Over Passed)
+  unfolding passing
+  in-turn =
+      let last = failAt (firstOver (2 * circuitOf l .top + 1) (codes (circuitOf l))) Over Passed in
+      go (tooBig (circuitOf l)) (misshapen l) (tooShort l (circuitOf l)) last ∙ ap (λ (c : Check). andThen c last) (sym sizing-is)
+    where
+      go : (a b c : Bool) (d : Check) → failIf a TooBig (failIf b Misshapen (failIf c Short d))
+          ≡ andThen (failIf a TooBig (failIf b Misshapen (failIf c Short Passed))) d
+      go true b c d = refl
+      go false true c d = refl
+      go false false true d = refl
+      go false false false d = refl
 
-        module _ (s : length (l .states) ≤ limit) where
-          pub big-gates : limit < length (l .gates) / 3 → true ≡ tooBig C
-          unfolding tooBig
-          big-gates h = simp (le-ltb _ _ within, le-ltb _ _ i, le-ltb _ _ s, gates-length (l .gates), lt-ltb _ _ h)
+  -- the returns of `checked`
+  module _ (r : Check) (e : r ≡ sizing (l .circuit) (lengthsOf l)) where
+    pub fails-sized : (why : Refusal) → r ≡ Failed why → Failed why ≡ passing l
+    fails-sized why k =
+        sym (in-turn ∙ ap (λ (c : Check). andThen c (failAt (firstOver (2 * circuitOf l .top + 1) (codes (circuitOf l))) Over Passed)) (sym e ∙ k))
 
-          pub big-roots : length (l .gates) / 3 ≤ limit → ltb limit (length (l .roots)) ≡ tooBig C
-          unfolding tooBig
-          big-roots h = simp (le-ltb _ _ within, le-ltb _ _ i, le-ltb _ _ s, gates-length (l .gates), le-ltb _ _ h)
+    module _ (k : r ≡ Passed) where
+      pub shaped : Shaped (l .states) (l .nexts) (l .gates)
+      shaped = let s = sizing-shaped (l .circuit) (lengthsOf l) (sym e ∙ k) in record { latches = s .0; whole = s .1 }
 
-  -- check 2
-  module _ (r : ℕ) (isTotal : r ≡ total (l .circuit .counts)) where
-    pub shape-counts : (r ≡ length (l .roots) → ⊥) → true ≡ misshapen l
-    unfolding misshapen
-    shape-counts n = rw (ne-eqb (total (l .circuit .counts)) (length (l .roots)) (λ e. n (isTotal ∙ e)))
+      past : passing l ≡ failAt (firstOver (2 * circuitOf l .top + 1) (codes (circuitOf l))) Over Passed
+      past = in-turn ∙ ap (λ (c : Check). andThen c (failAt (firstOver (2 * circuitOf l .top + 1) (codes (circuitOf l))) Over Passed)) (sym e ∙ k)
 
-    module _ (e : r ≡ length (l .roots)) where
-      pub shape-latches : (length (l .states) ≡ length (l .nexts) → ⊥) → true ≡ misshapen l
-      unfolding misshapen
-      shape-latches n = rw (eq-eqb (total (l .circuit .counts)) (length (l .roots)) (sym isTotal ∙ e), ne-eqb (length (l .states)) (length (l .nexts)) n)
-
-      pub shape-gates : length (l .states) ≡ length (l .nexts) → not (eqb (length (l .gates) % 3) 0) ≡ misshapen l
-      unfolding misshapen
-      shape-gates s = rw (eq-eqb (total (l .circuit .counts)) (length (l .roots)) (sym isTotal ∙ e), eq-eqb (length (l .states)) (length (l .nexts)) s)
-
-  -- check 3, where the map must have v + 1 words and there are g gates
-  module _ (v g : ℕ) (isTop : v ≡ C .top) (isCount : g ≡ length (l .gates) / 3) where
-    count : length (C .gates) ≡ g
-    count = gates-length (l .gates) ∙ sym isCount
-
-    pub short-map : length (l .map) < v + 1 → true ≡ tooShort l C
-    unfolding tooShort
-    short-map h = rw (lt-ltb (length (l .map)) (C .top + 1) (omega arith))
-
-    module _ (m : v + 1 ≤ length (l .map)) where
-      pub short-nexts : length (l .nextImages) < length (l .states) → true ≡ tooShort l C
-      unfolding tooShort
-      short-nexts h = rw (le-ltb (length (l .map)) (C .top + 1) (omega arith), lt-ltb _ _ h)
-
-      module _ (n : length (l .states) ≤ length (l .nextImages)) where
-        pub short-roots : length (l .rootImages) < length (l .roots) → true ≡ tooShort l C
-        unfolding tooShort
-        short-roots h = rw (le-ltb (length (l .map)) (C .top + 1) (omega arith), le-ltb _ _ n, lt-ltb _ _ h)
-
-        module _ (r : length (l .roots) ≤ length (l .rootImages)) where
-          pub short-gates : length (l .gatesOut) < 2 * g → true ≡ tooShort l C
-          unfolding tooShort
-          short-gates h =
-              rw (
-                le-ltb (length (l .map)) (C .top + 1) (omega arith),
-                le-ltb (length (l .nextImages)) (length (l .states)) n,
-                le-ltb (length (l .rootImages)) (length (l .roots)) r,
-                lt-ltb (length (l .gatesOut)) (2 * length (C .gates)) (omega (arith, count)),
-              )
-
-          pub short-scratch : 2 * g ≤ length (l .gatesOut) → ltb (length (l .scratch)) (3 * v + 3 + 3 * g) ≡ tooShort l C
-          unfolding tooShort
-          short-scratch h =
-              rw (
-                le-ltb (length (l .map)) (C .top + 1) (omega arith),
-                le-ltb (length (l .nextImages)) (length (l .states)) n,
-                le-ltb (length (l .rootImages)) (length (l .roots)) r,
-                le-ltb (length (l .gatesOut)) (2 * length (C .gates)) (omega (arith, count)),
-                isTop,
-                ← count,
-              )
-
--- checks 1 to 4 in turn, each as its function answers it
-module _ (l : Lent) (r₁ : Bool) (e₁ : r₁ ≡ tooBig (circuitIn (l .circuit) (l .inputs) (l .states) [] (l .gates) (l .roots))) where
-  pub fail-1 : r₁ ≡ true → Failed TooBig ≡ passing l
-  unfolding passing tooBig
-  fail-1 t = rw (sym e₁ ∙ t)
-
-  module _ (n₁ : r₁ ≡ false) (r₂ : Bool) (e₂ : r₂ ≡ misshapen (lentOf (l .circuit) [] (l .states) (l .nexts) (l .gates) (l .roots) [] [] [] [] [])) where
-    pub fail-2 : r₂ ≡ true → Failed Misshapen ≡ passing l
-    unfolding passing tooBig misshapen
-    fail-2 t = rw (sym e₁ ∙ n₁, sym e₂ ∙ t)
-
-    pub shaped : r₂ ≡ false → Shaped (l .states) (l .nexts) (l .gates)
-    shaped n =
-        let a = agrees (lentOf (l .circuit) [] (l .states) (l .nexts) (l .gates) (l .roots) [] [] [] [] []) (sym e₂ ∙ n) in
-        record { latches = a .latches; whole = a .words }
-
-    module _ (n₂ : r₂ ≡ false) (r₃ : Bool)
-        (e₃ : r₃ ≡ tooShort (lentOf (l .circuit) [] (l .states) [] (l .gates) (l .roots) (l .map) (l .nextImages) (l .rootImages) (l .gatesOut)
-        (l .scratch)) (circuitIn (l .circuit) [] (l .states) [] (l .gates) (l .roots))) where
-      pub fail-3 : r₃ ≡ true → Failed Short ≡ passing l
-      unfolding passing tooBig misshapen tooShort
-      fail-3 t = rw (sym e₁ ∙ n₁, sym e₂ ∙ n₂, sym e₃ ∙ t)
-
-      module _ (n₃ : r₃ ≡ false) (f : Found) (e₄ : f ≡ found (firstOver (2 * circuitOf l .top + 1) (codes (circuitOf l)))) where
-        in-turn : (c : Check) → c ≡ failAt (firstOver (2 * circuitOf l .top + 1) (codes (circuitOf l))) Over Passed → c ≡ passing l
-        unfolding passing tooBig misshapen tooShort
-        in-turn c e = rw (sym e₁ ∙ n₁, sym e₂ ∙ n₂, sym e₃ ∙ n₃) e
-
-        pub fail-4 : (x : Lit) → f ≡ Literal x → Failed (Over x) ≡ passing l
-        fail-4 x e = in-turn (Failed (Over x)) (go (firstOver (2 * circuitOf l .top + 1) (codes (circuitOf l))) (sym e ∙ e₄))
+      module _ (f : Found) (e₄ : f ≡ found (firstOver (2 * circuitOf l .top + 1) (codes (circuitOf l)))) where
+        pub fails-over : (x : Lit) → f ≡ Literal x → Failed (Over x) ≡ passing l
+        fails-over x h = go (firstOver (2 * circuitOf l .top + 1) (codes (circuitOf l))) (sym h ∙ e₄) ∙ sym past
           where
             go : (o : Option ℕ) → Literal x ≡ found o → Failed (Over x) ≡ failAt o Over Passed
-            go none k = absurd (let z : _≡_ {A = ℕ} 0 1 = cc in omega arith)
-            go (some d) k = cc
+            go none q = absurd (let z : _≡_ {A = ℕ} 0 1 = cc in omega arith)
+            go (some d) q = cc
 
-        pub pass : f ≡ Nothing → Passed ≡ passing l
-        pass e = in-turn Passed (go (firstOver (2 * circuitOf l .top + 1) (codes (circuitOf l))) (sym e ∙ e₄))
+        pub passes : f ≡ Nothing → Passed ≡ passing l
+        passes h = go (firstOver (2 * circuitOf l .top + 1) (codes (circuitOf l))) (sym h ∙ e₄) ∙ sym past
           where
             go : (o : Option ℕ) → Nothing ≡ found o → Passed ≡ failAt o Over Passed
-            go none k = refl
-            go (some d) k = absurd (let z : _≡_ {A = ℕ} 0 1 = cc in omega arith)
+            go none q = refl
+            go (some d) q = absurd (let z : _≡_ {A = ℕ} 0 1 = cc in omega arith)

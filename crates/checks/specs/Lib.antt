@@ -1,2 +1,2 @@
-pub mod Lending
+pub mod Bare
 pub mod Checks

@@ -1,20 +1,16 @@
 // What is asked before anything is written: checks 1 to 4, in their order.
 ghost use mathlib.Core.Path.{_≡_};
-ghost use Prim.Native.Nat.{_+_, _*_, _%_};
-ghost use mathlib.Core.List.{[]};
-ghost use lib.ListN.{length};
-ghost use Rattle.circuit.specs.Outcome.{total, tooBig, misshapen, tooShort};
+ghost use Prim.Native.Nat.{_+_, _*_};
+ghost use Rattle.circuit.specs.Outcome.{total};
 ghost use Rattle.circuit.specs.Circuit.{latchCodes, codes, firstOver};
-ghost use Rattle.checks.specs.Lending.{circuitIn};
-ghost use Rattle.checks.specs.Checks.{found, passing, Counted, Shaped};
+ghost use Rattle.checks.specs.Bare.{circuitIn};
+ghost use Rattle.checks.specs.Checks.{found, overLimit, unequal, lacks, Small, sizing, passing, Counted, Shaped};
 use circuit::CircuitRecord;
+use circuit::LIMIT;
 use circuit::Refusal;
 use lent::words::wide;
 use lit::Lit;
 use lit::Var;
-
-// The largest V, I, L, G and R that are taken.
-const LIMIT: usize = 1048575;
 
 // The first literal of a list that a check does not let by.
 pub enum Found {
@@ -27,29 +23,38 @@ pub enum Check {
     Failed(Refusal),
 }
 
-fn too_big(
-    circuit: CircuitRecord,
-    inputs: &[u32],
-    states: &[u32],
-    gates: &[u32],
-    roots: &[u32],
-) -> bool
-    ensures { λ r. ⌜ r ≡ tooBig (circuitIn circuit (now (inputs .entry)) (now (states .entry)) [] (now (gates .entry)) (now (roots .entry))) ⌝ }
+// How long each list is: of the gates, how many there are and how many words are left over.
+pub struct Lengths {
+    pub inputs: usize,
+    pub states: usize,
+    pub nexts: usize,
+    pub gates: usize,
+    pub left_over: usize,
+    pub roots: usize,
+    pub map: usize,
+    pub next_images: usize,
+    pub root_images: usize,
+    pub gates_out: usize,
+    pub scratch: usize,
+}
+
+// Check 1.
+fn too_big(top: usize, n: Lengths) -> bool
+    ensures { λ r. ⌜ r ≡ overLimit top n ⌝ }
 {
-    let top = circuit.top;
-    if LIMIT < wide(top.index()) {
+    if LIMIT < top {
         return true;
     }
-    if LIMIT < inputs.len() {
+    if LIMIT < n.inputs {
         return true;
     }
-    if LIMIT < states.len() {
+    if LIMIT < n.states {
         return true;
     }
-    if LIMIT < gates.len() / 3 {
+    if LIMIT < n.gates {
         return true;
     }
-    LIMIT < roots.len()
+    LIMIT < n.roots
 }
 
 // A count as a number; five of them cannot overflow a sum.
@@ -67,78 +72,56 @@ pub fn sum(counts: [u32; 5]) -> usize
         + (count(counts[1]) + (count(counts[2]) + (count(counts[3]) + count(counts[4]))))
 }
 
-fn is_misshapen(
-    circuit: CircuitRecord,
-    states: &[u32],
-    nexts: &[u32],
-    gates: &[u32],
-    roots: &[u32],
-) -> bool
-    ensures { λ r. ⌜ r ≡ misshapen (record {
-      circuit = circuit;
-      inputs = [];
-      states = now (states .entry);
-      nexts = now (nexts .entry);
-      gates = now (gates .entry);
-      roots = now (roots .entry);
-      map = [];
-      nextImages = [];
-      rootImages = [];
-      gatesOut = [];
-      scratch = [];
-    }) ⌝ }
+// Check 2.
+fn is_misshapen(counts: [u32; 5], n: Lengths) -> bool
+    ensures { λ r. ⌜ r ≡ unequal counts n ⌝ }
 {
-    let counts = circuit.counts;
-    if sum(counts) != roots.len() {
+    if sum(counts) != n.roots {
         return true;
     }
-    if states.len() != nexts.len() {
+    if n.states != n.nexts {
         return true;
     }
-    gates.len() % 3 != 0
+    n.left_over != 0
 }
 
-fn is_short(
-    circuit: CircuitRecord,
-    states: &[u32],
-    gates: &[u32],
-    roots: &[u32],
-    map: &[u32],
-    next_images: &[u32],
-    root_images: &[u32],
-    gates_out: &[u32],
-    scratch: &[u32],
-) -> bool
-    ensures { λ r. ⌜ r ≡ tooShort (record {
-      circuit = circuit;
-      inputs = [];
-      states = now (states .entry);
-      nexts = [];
-      gates = now (gates .entry);
-      roots = now (roots .entry);
-      map = now (map .entry);
-      nextImages = now («next_images» .entry);
-      rootImages = now («root_images» .entry);
-      gatesOut = now («gates_out» .entry);
-      scratch = now (scratch .entry);
-    }) (circuitIn circuit [] (now (states .entry)) [] (now (gates .entry)) (now (roots .entry))) ⌝ }
+// Check 3, where check 1 has passed.
+fn is_short(top: usize, n: Lengths) -> bool
+    requires { ⌜ Small top n ⌝ }
+    ensures { λ r. ⌜ r ≡ lacks top n ⌝ }
+{
+    if n.map < top + 1 {
+        return true;
+    }
+    if n.next_images < n.states {
+        return true;
+    }
+    if n.root_images < n.roots {
+        return true;
+    }
+    if n.gates_out < 2 * n.gates {
+        return true;
+    }
+    n.scratch < 3 * top + 3 + 3 * n.gates
+}
+
+// Checks 1 to 3, which ask for lengths alone.
+pub fn sized(circuit: CircuitRecord, n: Lengths) -> Check
+    ensures { λ r. ⌜ r ≡ sizing circuit n ⌝ }
 {
     let top = circuit.top;
     let v = wide(top.index());
-    let g = gates.len() / 3;
-    if map.len() < v + 1 {
-        return true;
+    if too_big(v, n) {
+        return Check::Failed(Refusal::TooBig);
     }
-    if next_images.len() < states.len() {
-        return true;
+    let counts = circuit.counts;
+    if is_misshapen(counts, n) {
+        return Check::Failed(Refusal::Misshapen);
     }
-    if root_images.len() < roots.len() {
-        return true;
+    if is_short(v, n) {
+        return Check::Failed(Refusal::Short);
     }
-    if gates_out.len() < 2 * g {
-        return true;
-    }
-    scratch.len() < 3 * v + 3 + 3 * g
+    Check::Passed
 }
 
 // The first code of a list that is over the bound.
@@ -236,28 +219,28 @@ pub fn checked(
       scratch = now (scratch .entry);
     }) ⌝ }
 {
-    if too_big(circuit, inputs, states, gates, roots) {
-        return Check::Failed(Refusal::TooBig);
-    }
-    if is_misshapen(circuit, states, nexts, gates, roots) {
-        return Check::Failed(Refusal::Misshapen);
-    }
-    if is_short(
-        circuit,
-        states,
-        gates,
-        roots,
-        map,
-        next_images,
-        root_images,
-        gates_out,
-        scratch,
-    ) {
-        return Check::Failed(Refusal::Short);
-    }
-    let first = over(circuit, inputs, states, nexts, gates, roots);
-    match first {
-        Found::Literal(lit) => Check::Failed(Refusal::Over(lit)),
-        Found::Nothing => Check::Passed,
+    let n = Lengths {
+        inputs: inputs.len(),
+        states: states.len(),
+        nexts: nexts.len(),
+        gates: gates.len() / 3,
+        left_over: gates.len() % 3,
+        roots: roots.len(),
+        map: map.len(),
+        next_images: next_images.len(),
+        root_images: root_images.len(),
+        gates_out: gates_out.len(),
+        scratch: scratch.len(),
+    };
+    let sizes = sized(circuit, n);
+    match sizes {
+        Check::Failed(why) => Check::Failed(why),
+        Check::Passed => {
+            let first = over(circuit, inputs, states, nexts, gates, roots);
+            match first {
+                Found::Literal(lit) => Check::Failed(Refusal::Over(lit)),
+                Found::Nothing => Check::Passed,
+            }
+        }
     }
 }

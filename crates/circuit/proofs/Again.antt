@@ -20,7 +20,8 @@ use Rattle.circuit.specs.Map.{noImage, imageIn, codeOf, store}
 use Rattle.circuit.specs.Walk.{Net, sourceCount, Pair, Work, Out, reached, stopped, firstCode, nextCode, already, settleAs, settleOn, settle, look, lookAt, isMiddle, answer, andThen, throughInputs, walk, stackRoom, walkAll}
 use Rattle.circuit.specs.Ordered.{noPair, InOrder, gatesFrom, countFrom}
 use Rattle.circuit.proofs.Tests.{Same, same, other, sameTest, lt-or}
-use Rattle.circuit.proofs.Map.{entry, entry-same, entry-other, code-image, no-image}
+use Rattle.circuit.proofs.Map.{entry-same, entry-other, code-image, no-image}
+use Rattle.circuit.specs.Invariant.{entry}
 
 abbrev gateAt : ℕ → List Pair → ℕ → Gate
 gateAt t ps j = record { output = t + 2 * j; first = getD ps j noPair .larger; second = getD ps j noPair .smaller }

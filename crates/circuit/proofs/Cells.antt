@@ -20,17 +20,15 @@ use Rattle.circuit.specs.Walk.{sourceCount, Pair, Work, firstCode, folde
 use Rattle.circuit.specs.Circuit.{Circuit, net}
 use Rattle.circuit.specs.Ordered.{imagesIn, orderedOf, noPair}
 use Rattle.circuit.specs.Outcome.{Lent, Outcome, circuitOf, conclusion, scratchWords, onto, zeros, pairWords, outcome}
-use Rattle.circuit.specs.Claims.{HasImage, Named, Folds, imageAfter, largerAfter, smallerAfter, Taken, Untaken, Stays, IsNew, Ruled, Keeps, Filled, Fills, Holds}
+use Rattle.circuit.specs.Claims.{HasImage, Named, Folds, imageAfter, largerAfter, smallerAfter, Taken, Untaken, Stays, IsNew, Ruled, Keeps, Filled, Fills, Holds, Roomy}
 use Rattle.circuit.proofs.Tests.{lt-or, Same, same, other, sameTest}
-use Rattle.circuit.proofs.Map.{entry, codeIn}
-use Rattle.circuit.proofs.Settle.{pair, Makes}
 use Rattle.circuit.proofs.Rows.{RowIf, takesIf, leavesIf, rowIf}
-use Rattle.circuit.proofs.Invariant.{Inv, FromGate, BothMapped, largerIn, smallerIn, Unfolded}
 use Rattle.circuit.proofs.Renumber.{Done}
 use Rattle.circuit.proofs.Words.{pairs-length, pairs-larger, pairs-smaller}
 use Rattle.circuit.proofs.Outcome.{agrees, roomy, success-of, onto-at}
 use Rattle.circuit.proofs.Lengths.{filled, keeps-past}
 use Rattle.circuit.proofs.Success as S
+use Rattle.circuit.specs.Invariant.{pair, Makes, Inv, FromGate, BothMapped, largerIn, smallerIn, Unfolded, entry, codeIn}
 
 getD-any : {A : Type 0} (xs : List A) (i : ℕ) (d d′ : A) → i < length xs → getD xs i d ≡ getD xs i d′
 getD-any [] i d d′ h = absurd (omega arith)
@@ -47,10 +45,14 @@ module _ (l : Lent) (w : Work) (e : conclusion l ≡ reached w) where
   abbrev inv : Inv (net C) (C .top) w
   inv = S.facts l w e .1 .inv
 
+  abbrev room : Roomy l C
+  room = roomy l (S.facts l w e .0 .three)
+
   -- a cell of the map is the walk's
   cell : (v : ℕ) → v ≤ C .top → getD (outcome l .map) v 0 ≡ entry (w .images) v
   cell v h =
-      ap (λ (o : Outcome). getD (o .map) v 0) (success-of l w e) ∙ onto-at (w .images) (l .map) v 0 (omega (arith, inv .size))
+      ap (λ (o : Outcome). getD (o .map) v 0) (success-of l w e)
+      ∙ onto-at (w .images) (l .map) v 0 (omega (arith, inv .size)) (omega (arith, inv .size, room .map))
       ∙ getD-any (w .images) v 0 noImage (omega (arith, inv .size))
 
   mapped-low : (v : ℕ) → entry (w .images) v ≢ noImage → v ≤ C .top
@@ -134,7 +136,7 @@ module _ (l : Lent) (w : Work) (e : conclusion l ≡ reached w) where
   unfolding orderedOf rest
   word i h =
       ap (λ (o : Outcome). getD (o .gatesOut) i 0) (success-of l w e)
-      ∙ onto-at (pairWords (w .made) ++ rest) (l .gatesOut) i 0 (omega (arith, words-length))
+      ∙ onto-at (pairWords (w .made) ++ rest) (l .gatesOut) i 0 (omega (arith, words-length)) (omega (arith, words-length, room .gates))
 
   pub larger-word : (j : ℕ) → j < length (w .made) → getD (outcome l .gatesOut) (2 * j) 0 ≡ getD (w .made) j noPair .larger
   larger-word j h =
@@ -211,7 +213,7 @@ module _ (l : Lent) (w : Work) (e : conclusion l ≡ reached w) where
     scratch-filled =
         let is : outcome l .scratch ≡ onto (zeros (scratchWords C)) (l .scratch) = ap (λ (o : Outcome). o .scratch) (success-of l w e) in
         subst⁻¹ (Filled (scratchWords C) 0 (l .scratch)) is
-        (filled (scratchWords C) 0 (l .scratch) (roomy l (S.facts l w e .0 .three) .scratch)
+        (filled (scratchWords C) 0 (l .scratch) (room .scratch)
         (subst (Keeps (scratchWords C) (l .scratch)) is (keeps-past l .scratch)))
 
     pub fills : Fills l C (outcome l) s
@@ -242,7 +244,8 @@ module _ (l : Lent) (w : Work) (e : conclusion l ≡ reached w) where
               λ j h.
               sym
               (ap (λ (o : Outcome). getD (o .nextImages) j 0) (success-of l w e)
-              ∙ onto-at (imagesIn (w .images) (C .nexts)) (l .nextImages) j 0 (omega (arith, images-length (C .nexts), latches)));
+              ∙ onto-at (imagesIn (w .images) (C .nexts)) (l .nextImages) j 0 (omega (arith, images-length (C .nexts), latches))
+              (omega (arith, images-length (C .nexts), latches, room .nexts)));
           made = sym sums;
           gates = λ j h. let i : j < length (w .made) = omega arith in ap₂ pair (sym (larger-word j i)) (sym (smaller-word j i));
           counts = refl;
@@ -251,7 +254,8 @@ module _ (l : Lent) (w : Work) (e : conclusion l ≡ reached w) where
               λ j h.
               sym
               (ap (λ (o : Outcome). getD (o .rootImages) j 0) (success-of l w e)
-              ∙ onto-at (imagesIn (w .images) (C .roots)) (l .rootImages) j 0 (omega (arith, images-length (C .roots))));
+              ∙ onto-at (imagesIn (w .images) (C .roots)) (l .rootImages) j 0 (omega (arith, images-length (C .roots)))
+              (omega (arith, images-length (C .roots), room .roots)));
         }
 
     -- a reached gate that no row takes is a new gate

@@ -15,10 +15,10 @@ use Rattle.circuit.specs.Map.{noImage}
 use Rattle.circuit.specs.Walk.{Net, sourceCount, Pair, firstCode, folded}
 use Rattle.circuit.specs.Ordered.{noPair, InOrder, flipIf}
 use Rattle.circuit.proofs.Tests.{le-or, Same, same, other, sameTest}
-use Rattle.circuit.proofs.Map.{entry, codeIn}
-use Rattle.circuit.proofs.Meaning.{flipIf-twice, flipIf-false, like, Reads, byConstant, bySource, byGate}
-use Rattle.circuit.proofs.Values.{val, val-zero, val-one, val-source, val-flipped, val-gate}
+use Rattle.circuit.proofs.Meaning.{flipIf-twice, flipIf-false}
+use Rattle.circuit.proofs.Values.{val-zero, val-one, val-source, val-flipped, val-gate}
 use Rattle.circuit.proofs.Settle.{and-comm}
+use Rattle.circuit.specs.Invariant.{like, Reads, byConstant, bySource, byGate, val, entry, codeIn}
 
 -- the images a and b of a gate's inputs make t: a gate of the list, or a folding row
 abbrev pub Made : Net → List Pair → ℕ → ℕ → ℕ → Type 0

@@ -16,72 +16,13 @@ use Rattle.circuit.specs.Map.{noImage, store}
 use Rattle.circuit.specs.Walk.{Net, sourceCount, Pair, Work, firstCode, nextCode, foldedIf, already, settleAs, settleOn, settle}
 use Rattle.circuit.specs.Ordered.{noPair, InOrder, flipIf}
 use Rattle.circuit.proofs.Tests.{le-or, Same, same, other, sameTest}
-use Rattle.circuit.proofs.Map.{entry, codeIn, entry-same, entry-other, store-all, store-length, code-in}
+use Rattle.circuit.proofs.Map.{entry-same, entry-other, store-all, store-length, code-in}
 use Rattle.circuit.proofs.Graph.{Grounded-gate, one-gate}
-use Rattle.circuit.proofs.Meaning.{like, Reads, byGate, reads-like}
-use Rattle.circuit.proofs.Values.{val, val-flipped}
-use Rattle.circuit.proofs.Settle.{and-comm, pair, Makes, Already, isNew, alreadyIs, Fresh, Placed, placed-old, placed-new}
-use Rattle.circuit.proofs.Settled.{settled, settled-le, settled-more, settled-room}
-
--- what checks 1 and 4 leave: codes stay below the word for no image, and what is defined lies within the map
-pub record Sized (N : Net) (top : ℕ) : Type 0 where
-  pub few : 2 * (sourceCount N + length (N .graph .gates) + 1) ≤ noImage
-  pub sources : (d : ℕ) → In d (N .graph .sources) → var d ≤ top
-  pub outputs : (g : Gate) → In g (N .graph .gates) → outVar g ≤ top
-
--- both inputs of the gate have images
-abbrev pub BothMapped : List ℕ → Gate → Type 0
-BothMapped m g = (entry m (var (g .first)) ≢ noImage) × (entry m (var (g .second)) ≢ noImage)
-
--- the larger and the smaller image of a gate's inputs
-abbrev pub largerIn : List ℕ → Gate → ℕ
-largerIn m g = max (codeIn m (g .first)) (codeIn m (g .second))
-
-abbrev pub smallerIn : List ℕ → Gate → ℕ
-smallerIn m g = min (codeIn m (g .first)) (codeIn m (g .second))
-
--- the gate's image is what its inputs' images make: a gate made, or what a folding row gives
-abbrev pub RuleFor : Net → List ℕ → List Pair → Gate → Type 0
-RuleFor N m made g = Makes N made (largerIn m g) (smallerIn m g) (codeIn m (g .output))
-
--- no folding row takes the gate's inputs' images
-abbrev pub Unfolded : Net → List ℕ → Gate → Type 0
-Unfolded N m g = foldedIf (N .fold) (largerIn m g) (smallerIn m g) ≡ none
-
--- the j-th gate made is the image of a gate that no folding row took
-pub record FromGate (N : Net) (m : List ℕ) (made : List Pair) (j : ℕ) : Type 0 where
-  pub gate : Gate
-  pub isGate : In gate (N .graph .gates)
-  pub isMapped : entry m (outVar gate) ≢ noImage
-  pub unfolded : Unfolded N m gate
-  pub code : codeIn m (gate .output) ≡ firstCode (sourceCount N) + 2 * j
-  pub words : getD made j noPair ≡ pair (largerIn m gate) (smallerIn m gate)
-
-pub record Inv (N : Net) (top : ℕ) (w : Work) : Type 0 where
-  -- the map has an entry a variable, and its codes are those given out so far
-  pub size : length (w .images) ≡ top + 1
-  pub low : (v : ℕ) → entry (w .images) v ≢ noImage → entry (w .images) v < nextCode (sourceCount N) (w .made)
-  -- what has an image reaches only what is defined and no cycle, and has its image's bit
-  pub grounded : (v : ℕ) → entry (w .images) v ≢ noImage → Grounded (N .graph) v
-  pub reads : (given : ℕ → Bool) (v : ℕ) → entry (w .images) v ≢ noImage
-      → Reads (N .graph) given (2 * v) (val (sourceCount N) given (w .made) (entry (w .images) v))
-  -- the gates made stand in order, and were each made because nothing stood for the pair already
-  pub order : InOrder (sourceCount N) (w .made)
-  pub fresh : Fresh N (w .made)
-  -- the constant and the sources have their codes
-  pub leaves : (v : ℕ) → In v (0 ∷ map var (N .graph .sources)) → entry (w .images) v ≢ noImage
-  pub zeroCode : entry (w .images) 0 ≡ 0
-  pub sourceCodes : (k : ℕ) → k < sourceCount N → codeIn (w .images) (getD (N .graph .sources) k 0) ≡ 2 * (k + 1)
-  -- no more gates are made than have images; one with an image has inputs with images, which make it
-  pub few : length (w .made) ≤ settled (w .images) (N .graph .gates)
-  pub closed : (g : Gate) → In g (N .graph .gates) → entry (w .images) (outVar g) ≢ noImage → BothMapped (w .images) g
-  pub ruled : (g : Gate) → In g (N .graph .gates) → entry (w .images) (outVar g) ≢ noImage → RuleFor N (w .images) (w .made) g
-  -- with hashing off, gates that no folding row took have codes of their own
-  pub kept : N .hash ≡ false → (g g′ : Gate) → In g (N .graph .gates) → In g′ (N .graph .gates)
-      → entry (w .images) (outVar g) ≢ noImage → entry (w .images) (outVar g′) ≢ noImage
-      → Unfolded N (w .images) g → Unfolded N (w .images) g′ → codeIn (w .images) (g .output) ≡ codeIn (w .images) (g′ .output) → g ≡ g′
-  -- each gate made is the image of a gate
-  pub from : (j : ℕ) → j < length (w .made) → FromGate N (w .images) (w .made) j
+use Rattle.circuit.proofs.Meaning.{reads-like}
+use Rattle.circuit.proofs.Values.{val-flipped}
+use Rattle.circuit.proofs.Settle.{and-comm, Already, isNew, alreadyIs, Placed, placed-old, placed-new}
+use Rattle.circuit.proofs.Settled.{settled-le, settled-more, settled-room}
+use Rattle.circuit.specs.Invariant.{like, Reads, byGate, val, pair, Makes, Fresh, settled, Sized, BothMapped, largerIn, smallerIn, RuleFor, Unfolded, FromGate, Inv, entry, codeIn}
 
 -- the work has grown: what had an image keeps it, and what is new is reached from u
 pub record Grown (G : Graph) (w w′ : Work) (u : ℕ) : Type 0 where

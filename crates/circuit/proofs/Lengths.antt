@@ -1,4 +1,4 @@
--- Whatever the answer, lent lists keep their lengths, and their cells past those named: what is written over a list's front is as long as check 3 asks.
+-- Whatever the answer, lent lists keep their lengths, and their cells past those named: what is written onto a list's front is as long as check 3 asks.
 -- Assumes nothing.
 use Prim.Native.Nat.{ℕ, _*_, _-_, _≤_}
 use mathlib.Core.Path.{_≡_, refl, sym, _∙_}
@@ -23,14 +23,16 @@ same : (n : ℕ) (lent : List ℕ) → Keeps n lent lent
 same n lent = (refl, λ i h. refl)
 
 onto-keeps : (ws lent : List ℕ) (n : ℕ) → length ws ≡ n → n ≤ length lent → Keeps n lent (onto ws lent)
-onto-keeps ws lent n e h = (onto-length ws lent (omega arith), λ i k. onto-past ws lent i 0 (omega arith))
+onto-keeps ws lent n e h = (onto-length ws lent, λ i k. onto-past ws lent i 0 (omega arith) (omega arith))
 
 -- and with one word in all of it
 pub filled : (n word : ℕ) (lent : List ℕ) → n ≤ length lent → Keeps n lent (onto (replicate n word) lent) → Filled n word lent (onto (replicate n word) lent)
 filled n word lent h k =
     record {
       enough = omega (arith, k .0);
-      front = λ i j. onto-at (replicate n word) lent i 0 (omega (arith, length-replicate n word)) ∙ getD-replicate n i word 0 j;
+      front =
+          λ i j. onto-at (replicate n word) lent i 0 (omega (arith, length-replicate n word)) (omega (arith, length-replicate n word))
+          ∙ getD-replicate n i word 0 j;
       past = k;
     }
 

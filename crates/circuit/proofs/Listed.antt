@@ -10,10 +10,10 @@ use lib.ListN.{length, getD}
 use Rattle.circuit.specs.Graph.{In, Gate}
 use Rattle.circuit.specs.Circuit.{Circuit, gateOutputs, gateCodes, latchCodes, codes, walked}
 use Rattle.circuit.specs.Outcome.{Lent, gatesOf, circuitOf}
-use Rattle.circuit.specs.Claims.{largestCode, AllWithin, GatesWithin, Bounded, FirstOver, FirstTooBig, anInput, ofGate, ofLatch, aRoot, noGate, IsLent, IsWalked}
+use Rattle.circuit.specs.Claims.{largestCode, AllWithin, GatesWithin, Bounded, FirstOver, FirstTooBig, anInput, ofGate, ofLatch, aRoot, noGate, IsLent, IsWalked, gateAt}
 use Rattle.circuit.specs.Tested.{InBounds}
 use Rattle.circuit.proofs.Lists.{In-left, In-right, In-cases, In-unmap}
-use Rattle.circuit.proofs.Words.{gates-length, gateAt}
+use Rattle.circuit.proofs.Words.{gates-length}
 
 -- all of two lists together
 within-left : (b : ℕ) (xs ys : List ℕ) → AllWithin b (xs ++ ys) → AllWithin b xs

@@ -19,31 +19,11 @@ use Rattle.circuit.specs.Map.{noImage, imageIn}
 use Rattle.circuit.specs.Walk.{Net, Work, Out, reached, stopped, Look, mapped, refused, enter, isMiddle, lookAt, look, answer, andThen, throughInputs, walk, stackRoom, settle}
 use Rattle.circuit.specs.Machine.{Frame, At, transfer, back, Machine, Next, goes, ends, pathOf, pushed, stepLook, stepBack, stepAt, step}
 use Rattle.circuit.proofs.Tests.{Same, same, other, sameTest, AtMost, atMost, above, leTest}
-use Rattle.circuit.proofs.Map.{entry}
 use Rattle.circuit.proofs.Graph.{GateFound, noGate, aGate, gateFound, one-gate, Reach-join}
-use Rattle.circuit.proofs.Settled.{settled, settled-le, settled-more, settled-room}
-use Rattle.circuit.proofs.Invariant.{Sized, Inv, Grown, Settled, settle-ok}
+use Rattle.circuit.proofs.Settled.{settled-le, settled-more, settled-room}
+use Rattle.circuit.proofs.Invariant.{Grown, Settled, settle-ok}
 use Rattle.circuit.proofs.Walk.{Looking, hasImage, onPath, isUndefined, atGate, looking}
-
--- what is left to do for a literal once the input under way has its image
-abbrev pub restWith : Net → ℕ → List ℕ → ℕ → Work → Bool → Option Gate → Out
-restWith N room path c w onSecond none = stopped (Undefined (literal c))
-restWith N room path c w false (some g) = andThen (walk N room path w (g .second)) (λ w₂. reached (settle N w₂ g))
-restWith N room path c w true (some g) = reached (settle N w g)
-
--- what the whole comes to, where the walk under way comes to o
-unfoldable pub resume : Net → List Frame → Out → Out
-resume N [] o = o
-resume N (f ∷ fs) o =
-    resume N fs
-    (andThen o (λ w. restWith N (stackRoom N - length (f ∷ fs)) (pathOf (f ∷ fs)) (f .lit) w (f .onSecond) (gateFor (N .graph .gates) (var (f .lit)))))
-
-abbrev pub comesToAt : Net → List Frame → At → Work → Out
-comesToAt N fs (transfer c) w = resume N fs (walk N (stackRoom N - length fs) (pathOf fs) w c)
-comesToAt N fs back w = resume N fs (reached w)
-
-abbrev pub comesTo : Net → Machine → Out
-comesTo N m = comesToAt N (m .frames) (m .at) (m .work)
+use Rattle.circuit.specs.Invariant.{settled, Sized, Inv, restWith, resume, comesToAt, comesTo, InputIs, FrameOk, Stack, AtOk, Running, entry}
 
 abbrev pub Follows : Net → Out → Next → Type 0
 Follows N o (goes m) = comesTo N m ≡ o
@@ -129,32 +109,6 @@ unfolding resume
 comesTo-start N w c =
     let e : stackRoom N - 0 ≡ stackRoom N = omega arith in
     ap (λ (k : ℕ). walk N k [] w c) e
-
--- the input of a gate that a frame has under way, and what is known of the other
-abbrev pub InputIs : Work → Bool → Gate → ℕ → Type 0
-InputIs w false g c = c ≡ g .first
-InputIs w true g c = (c ≡ g .second) × (entry (w .images) (var (g .first)) ≢ noImage)
-
-pub record FrameOk (N : Net) (w : Work) (f : Frame) (c : ℕ) : Type 0 where
-  pub g : Gate
-  pub isGate : In g (N .graph .gates)
-  pub names : outVar g ≡ var (f .lit)
-  pub isOpen : entry (w .images) (var (f .lit)) ≡ noImage
-  pub input : InputIs w (f .onSecond) g c
-
--- the frames lead to c: each literal is a gate's, has no image yet, and the next is one of that gate's inputs
-abbrev pub Stack : Net → Work → List Frame → ℕ → Type 0
-Stack N w [] c = Unit {0}
-Stack N w (f ∷ fs) c = FrameOk N w f c × Stack N w fs (f .lit)
-
-abbrev pub AtOk : Net → Work → List Frame → At → Type 0
-AtOk N w fs (transfer c) = Stack N w fs c
-AtOk N w fs back = (c : ℕ) × Stack N w fs c × (entry (w .images) (var c) ≢ noImage)
-
-pub record Running (N : Net) (top : ℕ) (m : Machine) : Type 0 where
-  pub inv : Inv N top (m .work)
-  pub short : length (m .frames) ≤ stackRoom N
-  pub stack : AtOk N (m .work) (m .frames) (m .at)
 
 -- what falls with each step
 abbrev pub firsts : List Frame → ℕ

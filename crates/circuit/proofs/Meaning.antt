@@ -12,6 +12,7 @@ use Rattle.circuit.specs.Graph.{In, Gate, Graph, outVar, DefinedOnce, ne
 use Rattle.circuit.specs.Ordered.{flipIf}
 use Rattle.circuit.proofs.Lists.{In-getD, Distinct-place}
 use Rattle.circuit.proofs.Graph.{one-gate, source-no-gate, zero-no-gate, zero-no-source, sources-distinct}
+use Rattle.circuit.specs.Invariant.{like, Reads, byConstant, bySource, byGate}
 
 pub flipIf-twice : (a x : Bool) → flipIf a (flipIf a x) ≡ x
 unfolding flipIf
@@ -46,10 +47,6 @@ odd-flipped t c = go (parity t) (parity c)
     go (inr p) (inl q) = rw (odd-true t p, odd-false c q) (odd-true _ (omega arith))
     go (inr p) (inr q) = rw (odd-true t p, odd-true c q) (odd-false _ (omega arith))
 
--- the bit of c where d, a literal of the same variable, has the bit x
-unfoldable pub like : ℕ → ℕ → Bool → Bool
-like c d x = flipIf (isOdd c) (flipIf (isOdd d) x)
-
 like-like : (d c s : ℕ) (x : Bool) → like d c (like c s x) ≡ like d s x
 unfolding like
 like-like d c s x = ap (flipIf (isOdd d)) (flipIf-twice (isOdd c) (flipIf (isOdd s) x))
@@ -67,14 +64,6 @@ unfolding like flipIf isOdd
 like-negated c x =
     ap (λ (b : Bool). flipIf b (flipIf (isOdd c) x)) (odd-flipped c 1) ∙ flipIf-flipIf true (isOdd c) (flipIf (isOdd c) x)
     ∙ ap not (flipIf-twice (isOdd c) x)
-
--- the literal c has the bit b, by its variable
-pub data Reads (G : Graph) (given : ℕ → Bool) : ℕ → Bool → Type 0 where
-  byConstant : {c : ℕ} {b : Bool} → var c ≡ 0 → b ≡ isOdd c → Reads G given c b
-  bySource : {c : ℕ} {b : Bool} (k : ℕ) → k < length (G .sources) → var c ≡ var (getD (G .sources) k 0)
-      → b ≡ like c (getD (G .sources) k 0) (given k) → Reads G given c b
-  byGate : {c : ℕ} {b : Bool} (g : Gate) (x y : Bool) → In g (G .gates) → var c ≡ outVar g
-      → Reads G given (g .first) x → Reads G given (g .second) y → b ≡ like c (g .output) (x && y) → Reads G given c b
 
 -- a literal of the same variable
 pub reads-like : {G : Graph} {given : ℕ → Bool} {c : ℕ} {b : Bool} (d : ℕ) → var d ≡ var c → Reads G given c b → Reads G given d (like d c b)

@@ -18,11 +18,11 @@ use Rattle.circuit.specs.Map.{noImage}
 use Rattle.circuit.specs.Walk.{Net, Work, Out, reached, stopped, Look, look, answer, andThen, throughInputs, walk, stackRoom, walkAll, settle}
 use Rattle.circuit.specs.Circuit.{elem}
 use Rattle.circuit.proofs.Tests.{lt-or, last-or, Same, same, other, sameTest}
-use Rattle.circuit.proofs.Map.{entry}
 use Rattle.circuit.proofs.Lists.{In-cases, In-getD, In-map, In-unmap, pigeons, Elem, inside, outside, elemTest}
 use Rattle.circuit.proofs.Graph.{one-gate, Reach-join, Plus, Plus-step}
-use Rattle.circuit.proofs.Invariant.{Sized, Inv, Grown}
+use Rattle.circuit.proofs.Invariant.{Grown}
 use Rattle.circuit.proofs.Walk.{Looking, hasImage, onPath, isUndefined, atGate, looking, Post, walk-ok}
+use Rattle.circuit.specs.Invariant.{Sized, Inv, entry}
 
 -- two places of a list hold the same number
 data Dup (xs : List ℕ) : Type 0 where

@@ -13,8 +13,9 @@ use Rattle.circuit.specs.Graph.{In, Distinct, Gate, Graph, outVar, Defin
 use Rattle.circuit.specs.Walk.{Pair, firstCode, nextCode}
 use Rattle.circuit.specs.Ordered.{Ordered, countFrom, gatesFrom, sourcesOf, given, orderedGraph, noPair, InOrder, flipIf, bitOf, valuesOf, givenFrom}
 use Rattle.circuit.proofs.Tests.{lt-or}
-use Rattle.circuit.proofs.Meaning.{like, flipIf-false, Reads, byConstant, bySource, byGate, reads-means, means-one}
-use Rattle.circuit.proofs.Values.{val, val-zero, val-source, val-even, val-gate}
+use Rattle.circuit.proofs.Meaning.{flipIf-false, reads-means, means-one}
+use Rattle.circuit.proofs.Values.{val-zero, val-source, val-even, val-gate}
+use Rattle.circuit.specs.Invariant.{like, Reads, byConstant, bySource, byGate, val}
 
 upFrom : ℕ → ℕ → List ℕ
 upFrom k zero = []

@@ -1,16 +1,16 @@
--- From the outcome back to the walk: what an answer says of the checks and of the walk; and what words written over a lent list leave of it. Assumes
+-- From the outcome back to the walk: what an answer says of the checks and of the walk; and what words written onto a lent list leave of it. Assumes
 -- nothing.
 use Prim.Native.Nat.{ℕ, zero, suc, _+_, _*_, _-_, _%_, _<_, _≤_}
 use mathlib.Core.Path.{_≡_, refl, sym, _∙_, ap, subst⁻¹}
 use mathlib.Core.Logic.{inl, inr, _↔_}
 use mathlib.Core.Bool.{Bool, true, false, not, cond, _||_, true≢false}
 use mathlib.Core.Option.{Option, none, some}
-use mathlib.Core.List.{List, [], _∷_, _++_, map}
+use mathlib.Core.List.{List, [], _∷_, _++_, map, append-nil}
 use native.Mathlib.Omega.{arith}
 use borrow.Author.Tests.{ltb-false, le-ltb, eqb-true, eq-eqb, not-false}
 use lib.Dec.{eqb, leb, ltb}
-use lib.ListN.{length, getD, take, drop, length-append, length-drop, List·getD-append}
-use lib.Seq.{take-at, getD-append-add, getD-drop}
+use lib.ListN.{length, getD, take, drop, length-append, length-take, length-drop, drop-of-length-le, List·getD-append}
+use lib.Seq.{take-all, take-at, getD-append-add, getD-drop}
 use Rattle.circuit.specs.declared.Refusal.{Refusal}
 use Rattle.circuit.specs.declared.Refusal.the-variants as R
 use Rattle.circuit.specs.declared.Refusal.the-variants.{TooBig, Misshapen, Short, StateAgain, Undefined, Cycle, Deep}
@@ -226,23 +226,40 @@ module _ (l : Lent) where
   unfolding conclusion
   conclusion-of f = rw (f .one, f .two, f .three)
 
--- words written over a list
-pub onto-length : (ws lent : List ℕ) → length ws ≤ length lent → length (onto ws lent) ≡ length lent
-onto-length ws lent h = omega (arith, length-append ws (drop (length ws) lent), length-drop (length ws) lent)
+-- words written onto a list that is long enough
+pub onto-long : (ws lent : List ℕ) → length ws ≤ length lent → onto ws lent ≡ ws ++ drop (length ws) lent
+onto-long ws lent h = rw (take-all (length lent) ws h)
 
-pub onto-take : (ws lent : List ℕ) (n : ℕ) → length ws ≡ n → take n (onto ws lent) ≡ ws
-onto-take ws lent n e = take-at ws (drop (length ws) lent) n e
+-- and onto one that is just as long
+pub onto-whole : (ws lent : List ℕ) → length ws ≡ length lent → onto ws lent ≡ ws
+onto-whole ws lent e = rw (take-all (length lent) ws (omega arith), drop-of-length-le lent {i = length ws} (omega arith)) (append-nil ws)
 
-pub onto-at : (ws lent : List ℕ) (i d : ℕ) → i < length ws → getD (onto ws lent) i d ≡ getD ws i d
-onto-at ws lent i d h = List·getD-append ws (drop (length ws) lent) d i h
+-- no words change nothing
+pub onto-none : (lent : List ℕ) → onto [] lent ≡ lent
+onto-none lent = onto-long [] lent (omega arith)
+
+pub onto-length : (ws lent : List ℕ) → length (onto ws lent) ≡ length lent
+onto-length ws lent =
+    omega (
+      arith,
+      length-append (take (length lent) ws) (drop (length ws) lent),
+      length-take (length lent) ws,
+      length-drop (length ws) lent,
+    )
+
+pub onto-take : (ws lent : List ℕ) (n : ℕ) → length ws ≡ n → n ≤ length lent → take n (onto ws lent) ≡ ws
+onto-take ws lent n e h = ap (take n) (onto-long ws lent (omega arith)) ∙ take-at ws (drop (length ws) lent) n e
+
+pub onto-at : (ws lent : List ℕ) (i d : ℕ) → i < length ws → length ws ≤ length lent → getD (onto ws lent) i d ≡ getD ws i d
+onto-at ws lent i d h k = ap (λ (x : List ℕ). getD x i d) (onto-long ws lent k) ∙ List·getD-append ws (drop (length ws) lent) d i h
 
 -- past the words written a lent list is as it was
-pub onto-past : (ws lent : List ℕ) (i d : ℕ) → length ws ≤ i → getD (onto ws lent) i d ≡ getD lent i d
-onto-past ws lent i d h =
+pub onto-past : (ws lent : List ℕ) (i d : ℕ) → length ws ≤ i → length ws ≤ length lent → getD (onto ws lent) i d ≡ getD lent i d
+onto-past ws lent i d h l =
     let k : ℕ = i - length ws in
     let e : i ≡ length ws + k = omega arith in
-    ap (λ (j : ℕ). getD (onto ws lent) j d) e ∙ getD-append-add ws (drop (length ws) lent) k d ∙ getD-drop (length ws) lent k d
-    ∙ ap (λ (j : ℕ). getD lent j d) (sym e)
+    ap (λ (x : List ℕ). getD x i d) (onto-long ws lent l) ∙ ap (λ (j : ℕ). getD (ws ++ drop (length ws) lent) j d) e
+    ∙ getD-append-add ws (drop (length ws) lent) k d ∙ getD-drop (length ws) lent k d ∙ ap (λ (j : ℕ). getD lent j d) (sym e)
 
 pub getD-map-in : {A : Type 0} (f : A → ℕ) (xs : List A) (j : ℕ) (a : A) (d : ℕ) → j < length xs → getD (map f xs) j d ≡ f (getD xs j a)
 getD-map-in f [] j a d h = absurd (omega arith)

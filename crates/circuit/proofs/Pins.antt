@@ -19,7 +19,7 @@ use Rattle.circuit.specs.Map.{entryImage, imageIn, store, codeOf}
 use Rattle.circuit.specs.Walk.{Net, Pair, Work, reached, stopped, firstCode, nextCode, folded, madeBefore, already, settleAs, settleOn, settle, look, throughInputs, walk, stackRoom, walkAll}
 use Rattle.circuit.specs.Circuit.{Circuit, codes, start, walked, renumber}
 use Rattle.circuit.specs.Ordered.{Ordered, imagesIn, orderedOf, sourcesOf, given, orderedGraph, noPair, InOrder, flipIf, bitOf, runGates, valuesOf, givenFrom}
-use Rattle.circuit.specs.Outcome.{Lent, lentOf, outcomeOf, gatesOf, tooBig, misshapen, tooShort, pairWords, pairsOf, cleared, conclusion, after, outcome, held}
+use Rattle.circuit.specs.Outcome.{Lent, lentOf, outcomeOf, gatesOf, tooBig, misshapen, tooShort, onto, pairWords, pairsOf, cleared, conclusion, after, outcome, held}
 use Rattle.circuit.specs.Machine.{Frame, At, transfer, back, Machine, goes, ends, pathOf, stepLook, stepBack, stepAt, step, stackWords}
 use Rattle.circuit.specs.Lending.{Flags, plain, trimming, hashing, folding, lend, circuit, Example, success, refusal, earlyRefusal}
 use Rattle.circuit.proofs.Examples.{outputs, Computes}
@@ -533,6 +533,12 @@ pub machine-pinned :
     × (step plainNet (machine [] back done) ≡ ends (reached done))
 unfolding step stepAt stepBack stepLook look imageIn entryImage flipped settle settleOn settleAs already nextCode firstCode folded codeOf store
 machine-pinned = (refl, refl, refl, refl, refl, refl, refl, refl, refl)
+
+-- words onto the front of a list: one that is longer, one that is as long, one that is shorter, and none
+pub onto-pinned :
+    (onto (1 ∷ 2 ∷ []) (7 ∷ 8 ∷ 9 ∷ []) ≡ 1 ∷ 2 ∷ 9 ∷ []) × (onto (1 ∷ 2 ∷ []) (7 ∷ 8 ∷ []) ≡ 1 ∷ 2 ∷ [])
+    × (onto (1 ∷ 2 ∷ 3 ∷ []) (7 ∷ 8 ∷ []) ≡ 1 ∷ 2 ∷ []) × (onto (1 ∷ []) [] ≡ []) × (onto [] (7 ∷ 8 ∷ []) ≡ 7 ∷ 8 ∷ [])
+onto-pinned = (refl, refl, refl, refl, refl)
 
 pub givens-pinned : (given : ℕ → Bool) → givenFrom given 3 2 ≡ given 3 ∷ given 4 ∷ []
 unfolding givenFrom

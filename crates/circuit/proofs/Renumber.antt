@@ -21,14 +21,13 @@ use Rattle.circuit.specs.Circuit.{Circuit, graph, net, gateOutputs, gate
 use Rattle.circuit.specs.Claims.{AllGrounded, Named, FirstOver, FirstAgain, IsUsed}
 use Rattle.circuit.specs.Tested.{InBounds}
 use Rattle.circuit.proofs.Tests.{Same, same, other, sameTest}
-use Rattle.circuit.proofs.Map.{entry}
 use Rattle.circuit.proofs.Lists.{In-left, In-right, In-cases, In-unmap, below-few}
 use Rattle.circuit.proofs.Graph.{Uses-reach}
-use Rattle.circuit.proofs.Invariant.{Sized, Inv}
 use Rattle.circuit.proofs.Walk.{Cause, AllPost, walkAll-ok}
 use Rattle.circuit.proofs.NeverNine.{NotDeep, never-nine}
 use Rattle.circuit.proofs.Start.{start-inv, start-only}
 use Rattle.circuit.proofs.Checks.{Over, noneOver, oneOver, overTest, Apart, Again, once, again, againTest, map-append, map-outputs, no-again, parts-join, parts-ig, parts-zero, parts-s, parts-s-ig}
+use Rattle.circuit.specs.Invariant.{Sized, Inv, entry}
 
 -- what checks 1 and 2 leave
 pub record Limits (C : Circuit) : Type 0 where

@@ -13,7 +13,8 @@ use lib.Seq.{getD-append-seam, take-append-le, take-append-seam}
 use Rattle.circuit.specs.Walk.{Net, sourceCount, Pair, firstCode, nextCode, folded, orElse, madeBefore, foldedIf, already}
 use Rattle.circuit.specs.Ordered.{noPair, InOrder}
 use Rattle.circuit.proofs.Tests.{Same, same, other, sameTest, last-or}
-use Rattle.circuit.proofs.Values.{val, val-zero, val-one, val-old, val-new, val-gate}
+use Rattle.circuit.proofs.Values.{val-zero, val-one, val-old, val-new, val-gate}
+use Rattle.circuit.specs.Invariant.{val, pair, Makes, Fresh}
 
 and-false : (x : Bool) → x && false ≡ false
 and-false true = refl
@@ -32,15 +33,6 @@ and-comm true true = refl
 and-comm true false = refl
 and-comm false true = refl
 and-comm false false = refl
-
-abbrev pub pair : ℕ → ℕ → Pair
-pair hi lo = record { larger = hi; smaller = lo }
-
--- the images hi and lo of a gate's inputs, larger first, make t: by a folding row, if folding is on and one takes them, or else as a gate made
-abbrev pub Makes : Net → List Pair → ℕ → ℕ → ℕ → Type 0
-Makes N made hi lo t =
-    (foldedIf (N .fold) hi lo ≡ some t)
-    ⊎ ((j : ℕ) × (j < length made) × (t ≡ firstCode (sourceCount N) + 2 * j) × (getD made j noPair ≡ pair hi lo) × (foldedIf (N .fold) hi lo ≡ none))
 
 -- over n sources, the code t has the bit of the AND of a and b
 pub record Stands (n : ℕ) (made : List Pair) (t a b : ℕ) : Type 0 where
@@ -118,10 +110,6 @@ alreadyIs N made hi lo =
     go none e true k m (before s j l q r) = isMade s j e k l q r
     go none e true k m (never n) = isNew e (λ z. n)
     go none e false k m b = isNew e (λ z. absurd (let y : _≡_ {A = Bool} true false = cc in let w : _≡_ {A = ℕ} 0 1 = cc in omega arith))
-
--- each pair was made because nothing stood for it already
-abbrev pub Fresh : Net → List Pair → Type 0
-Fresh N made = (j : ℕ) → j < length made → already N (take j made) (getD made j noPair .larger) (getD made j noPair .smaller) ≡ none
 
 -- a code t is found for the AND of hi and lo, perhaps by one gate more
 pub record Placed (N : Net) (made : List Pair) (hi lo t : ℕ) (made′ : List Pair) : Type 0 where

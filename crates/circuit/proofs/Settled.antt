@@ -11,11 +11,7 @@ use lib.ListN.{length}
 use Rattle.circuit.specs.Graph.{In, Gate, outVar}
 use Rattle.circuit.specs.Map.{noImage}
 use Rattle.circuit.proofs.Tests.{Same, same, other, sameTest}
-use Rattle.circuit.proofs.Map.{entry}
-
--- 1 for an entry that holds a code
-unfoldable pub oneOf : ℕ → ℕ
-oneOf e = cond (eqb e noImage) 0 1
+use Rattle.circuit.specs.Invariant.{oneOf, settled, entry}
 
 oneOf-gone : (e : ℕ) → e ≡ noImage → oneOf e ≡ 0
 unfolding oneOf
@@ -42,11 +38,6 @@ oneOf-le e = go (eqb e noImage) (sameTest e noImage)
     go : (b : Bool) → Same e noImage b → oneOf e ≤ 1
     go true (same h) = omega (arith, oneOf-gone e h)
     go false (other h) = omega (arith, oneOf-found e h)
-
--- how many gates have their image
-unfoldable pub settled : List ℕ → List Gate → ℕ
-settled m [] = 0
-settled m (g ∷ gs) = oneOf (entry m (outVar g)) + settled m gs
 
 pub settled-le : (m : List ℕ) (gs : List Gate) → settled m gs ≤ length gs
 unfolding settled

@@ -13,12 +13,12 @@ use Rattle.circuit.specs.Map.{noImage, store}
 use Rattle.circuit.specs.Walk.{Net, sourceCount, Work, firstCode, nextCode}
 use Rattle.circuit.specs.Circuit.{storeFrom, start}
 use Rattle.circuit.specs.Ordered.{flipIf}
-use Rattle.circuit.proofs.Map.{entry, codeIn, entry-same, entry-other, entry-replicate, store-all, store-length}
+use Rattle.circuit.proofs.Map.{entry-same, entry-other, entry-replicate, store-all, store-length}
 use Rattle.circuit.proofs.Lists.{In-getD, In-map, In-unmap}
 use Rattle.circuit.proofs.Graph.{source-defined, source-no-gate, zero-no-gate, zero-no-source, sources-distinct, Grounded-leaf}
-use Rattle.circuit.proofs.Meaning.{like, Reads, byConstant, bySource}
-use Rattle.circuit.proofs.Values.{val, val-zero, val-source, val-flipped}
-use Rattle.circuit.proofs.Invariant.{Sized, Inv, half-double}
+use Rattle.circuit.proofs.Values.{val-zero, val-source, val-flipped}
+use Rattle.circuit.proofs.Invariant.{half-double}
+use Rattle.circuit.specs.Invariant.{like, Reads, byConstant, bySource, val, Sized, Inv, entry, codeIn}
 
 storeFrom-length : (m : List ℕ) (t : ℕ) (ds : List ℕ) → length (storeFrom m t ds) ≡ length m
 storeFrom-length m t [] = refl

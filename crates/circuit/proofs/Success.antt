@@ -8,7 +8,7 @@ use mathlib.Core.Option.{Option, none, some}
 use mathlib.Core.List.{List, [], _++_, map}
 use native.Mathlib.Omega.{arith}
 use lib.Dec.{ltb}
-use lib.ListN.{length, getD, take, drop, length-append, length-map, List·getD-eq-default, length-take}
+use lib.ListN.{length, getD, take, drop, length-append, length-map, length-replicate, List·getD-eq-default, length-take}
 use lib.Seq.{take-at, take-append-le, getD-take}
 use Rattle.lit.specs.Code.{var, literal, flipped}
 use Rattle.lit.specs.declared.Lit.{Lit}
@@ -21,20 +21,20 @@ use Rattle.circuit.specs.Ordered.{Ordered, orderedWith, imagesIn, ordere
 use Rattle.circuit.specs.Outcome.{Lent, Outcome, circuitOf, conclusion, onto, zeros, pairWords, pairsOf, summaryOf, outcome, held}
 use Rattle.circuit.specs.declared.Summary.{Summary}
 use Rattle.circuit.specs.declared.Answer.the-variants.{Renumbered}
-use Rattle.circuit.specs.Claims.{HasImage, Named, SameValue}
+use Rattle.circuit.specs.Claims.{HasImage, Named, SameValue, Roomy}
 use Rattle.circuit.specs.Tested.{Fits, Tested}
 use Rattle.circuit.proofs.Tests.{AtMost, atMost, above, leTest}
-use Rattle.circuit.proofs.Map.{entry, codeIn, code-image, image-code, no-image, code-in, image-entry}
+use Rattle.circuit.proofs.Map.{code-image, image-code, no-image, code-in, image-entry}
 use Rattle.circuit.proofs.Lists.{In-left, In-right, In-map, In-getD}
 use Rattle.circuit.proofs.Meaning.{reads-means, means-one}
-use Rattle.circuit.proofs.Values.{val}
 use Rattle.circuit.proofs.Settle.{Already, isNew, alreadyIs}
 use Rattle.circuit.proofs.Settled.{settled-le}
-use Rattle.circuit.proofs.Invariant.{Inv, lit-reads, flipped-below, codes-fit}
+use Rattle.circuit.proofs.Invariant.{lit-reads, flipped-below, codes-fit}
 use Rattle.circuit.proofs.Ordered.{ordered-once, ordered-means}
 use Rattle.circuit.proofs.Renumber.{Done, sized, counting, reach-mapped}
 use Rattle.circuit.proofs.Words.{pairs-length, pairs-back}
-use Rattle.circuit.proofs.Outcome.{agrees, limits, tested-of, concluded, Concluded, success-from, success-of, onto-take, onto-at, getD-map-in}
+use Rattle.circuit.proofs.Outcome.{agrees, limits, tested-of, concluded, Concluded, roomy, success-from, success-of, onto-long, onto-take, onto-at, getD-map-in}
+use Rattle.circuit.specs.Invariant.{val, Inv, entry, codeIn}
 
 module _ (l : Lent) (w : Work) (e : conclusion l ≡ reached w) where
   abbrev C : Circuit
@@ -58,6 +58,9 @@ module _ (l : Lent) (w : Work) (e : conclusion l ≡ reached w) where
   latches : length (C .states) ≡ length (C .nexts)
   latches = agrees l (facts .0 .two) .latches
 
+  room : Roomy l C
+  room = roomy l (facts .0 .three)
+
   -- as many sources in the ordered circuit as there were
   pub sources-same : sourcesOf O ≡ sourceCount (net C)
   unfolding orderedOf imagesIn
@@ -73,10 +76,12 @@ module _ (l : Lent) (w : Work) (e : conclusion l ≡ reached w) where
 
       go : (b : Bool) → AtMost (suc (C .top)) (var c) b → cond b Absent (imageIn (outcome l .map) c) ≡ imageIn (w .images) c
       go true (atMost h) = sym (no-image (w .images) c (List·getD-eq-default (w .images) noImage (omega (arith, inv .size))))
-      go false (above h) = ap (λ (m : List ℕ). imageIn m c) map-is ∙ same-entry (w .images) (l .map) c (omega (arith, inv .size))
+      go false (above h) =
+          ap (λ (m : List ℕ). imageIn m c) map-is
+          ∙ same-entry (w .images) (l .map) c (omega (arith, inv .size)) (omega (arith, inv .size, room .map))
         where
-          same-entry : (m lent : List ℕ) (d : ℕ) → var d < length m → imageIn (onto m lent) d ≡ imageIn m d
-          same-entry m lent d k = image-entry (onto m lent) m d (onto-at m lent (var d) noImage k)
+          same-entry : (m lent : List ℕ) (d : ℕ) → var d < length m → length m ≤ length lent → imageIn (onto m lent) d ≡ imageIn m d
+          same-entry m lent d k r = image-entry (onto m lent) m d (onto-at m lent (var d) noImage k r)
 
   -- a variable with an entry
   pub mapped : (c : ℕ) → entry (w .images) (var c) ≢ noImage → HasImage l (outcome l) c (literal (codeIn (w .images) c))
@@ -95,16 +100,27 @@ module _ (l : Lent) (w : Work) (e : conclusion l ≡ reached w) where
   held-is =
       let nexts : take (length (l .states)) (outcome l .nextImages) ≡ imagesIn (w .images) (C .nexts)
       = ap (λ (o : Outcome). take (length (l .states)) (o .nextImages)) (success-of l w e)
-      ∙ onto-take (imagesIn (w .images) (C .nexts)) (l .nextImages) (length (l .states)) (images-length (C .nexts) ∙ sym latches) in
+      ∙ onto-take (imagesIn (w .images) (C .nexts)) (l .nextImages) (length (l .states)) (images-length (C .nexts) ∙ sym latches) (room .nexts) in
       let roots : take (length (l .roots)) (outcome l .rootImages) ≡ imagesIn (w .images) (C .roots)
       = ap (λ (o : Outcome). take (length (l .roots)) (o .rootImages)) (success-of l w e)
-      ∙ onto-take (imagesIn (w .images) (C .roots)) (l .rootImages) (length (l .roots)) (images-length (C .roots)) in
+      ∙ onto-take (imagesIn (w .images) (C .roots)) (l .rootImages) (length (l .roots)) (images-length (C .roots)) (room .roots) in
       let rest : List ℕ = zeros (2 * (length (C .gates) - length (w .made))) in
       let words : List ℕ = pairWords (w .made) ++ rest in
+      let fit : length words ≤ length (l .gatesOut)
+      = omega (
+        arith,
+        length-append (pairWords (w .made)) rest,
+        length-replicate {A = ℕ} (2 * (length (C .gates) - length (w .made))) 0,
+        pairs-length (w .made),
+        inv .few,
+        settled-le (w .images) (C .gates),
+        room .gates,
+      ) in
       let gates : pairsOf (take (2 * length (w .made)) (outcome l .gatesOut)) ≡ w .made
       = ap (λ (o : Outcome). pairsOf (take (2 * length (w .made)) (o .gatesOut))) (success-of l w e)
       ∙ ap pairsOf
-      (take-append-le (2 * length (w .made)) words (drop (length words) (l .gatesOut))
+      (ap (take (2 * length (w .made))) (onto-long words (l .gatesOut) fit)
+      ∙ take-append-le (2 * length (w .made)) words (drop (length words) (l .gatesOut))
       (omega (arith, length-append (pairWords (w .made)) rest, pairs-length (w .made)))
       ∙ take-at (pairWords (w .made)) rest (2 * length (w .made)) (pairs-length (w .made)))
       ∙ pairs-back (w .made) in
@@ -142,13 +158,13 @@ module _ (l : Lent) (w : Work) (e : conclusion l ≡ reached w) where
       }
 
   -- next states and roots
-  image-at : (cs lent : List ℕ) → ((c : ℕ) → In c cs → In c (walked C)) → (j : ℕ) → j < length cs
+  image-at : (cs lent : List ℕ) → length cs ≤ length lent → ((c : ℕ) → In c cs → In c (walked C)) → (j : ℕ) → j < length cs
       → HasImage l (outcome l) (getD cs j 0) (literal (getD (onto (imagesIn (w .images) cs) lent) j 0))
   unfolding imagesIn
-  image-at cs lent all j h =
+  image-at cs lent fits all j h =
       let n : entry (w .images) (var (getD cs j 0)) ≢ noImage = done .images (getD cs j 0) (all (getD cs j 0) (In-getD cs j 0 h)) in
       let k : getD (onto (imagesIn (w .images) cs) lent) j 0 ≡ codeIn (w .images) (getD cs j 0)
-      = onto-at (imagesIn (w .images) cs) lent j 0 (omega (arith, images-length cs))
+      = onto-at (imagesIn (w .images) cs) lent j 0 (omega (arith, images-length cs)) (omega (arith, images-length cs))
       ∙ getD-map-in (λ c. codeOf (imageIn (w .images) c)) cs j 0 0 h ∙ code-in (w .images) (getD cs j 0) n in
       subst⁻¹ (λ (t : ℕ). HasImage l (outcome l) (getD cs j 0) (literal t)) k (mapped (getD cs j 0) n)
 
@@ -156,13 +172,14 @@ module _ (l : Lent) (w : Work) (e : conclusion l ≡ reached w) where
   unfolding walked orderedOf
   next-image j h =
       subst⁻¹ (λ (o : Outcome). HasImage l (outcome l) (getD (l .nexts) j 0) (literal (getD (o .nextImages) j 0))) (success-of l w e)
-      (image-at (l .nexts) (l .nextImages) (λ c k. In-right c (cond (C .trim) [] (gateOutputs C)) _ (In-left c (C .nexts) (C .roots) k)) j h)
+      (image-at (l .nexts) (l .nextImages) (omega (arith, room .nexts, latches))
+      (λ c k. In-right c (cond (C .trim) [] (gateOutputs C)) _ (In-left c (C .nexts) (C .roots) k)) j h)
 
   pub root-image : (j : ℕ) → j < length (l .roots) → HasImage l (outcome l) (getD (l .roots) j 0) (literal (getD (outcome l .rootImages) j 0))
   unfolding walked orderedOf
   root-image j h =
       subst⁻¹ (λ (o : Outcome). HasImage l (outcome l) (getD (l .roots) j 0) (literal (getD (o .rootImages) j 0))) (success-of l w e)
-      (image-at (l .roots) (l .rootImages) (λ c k. In-right c (cond (C .trim) [] (gateOutputs C)) _ (In-right c (C .nexts) (C .roots) k)) j h)
+      (image-at (l .roots) (l .rootImages) (room .roots) (λ c k. In-right c (cond (C .trim) [] (gateOutputs C)) _ (In-right c (C .nexts) (C .roots) k)) j h)
 
   pub walked-image : (c : ℕ) → In c (walked C) → (t : Lit) × HasImage l (outcome l) c t
   walked-image c h = (literal (codeIn (w .images) c), mapped c (done .images c h))

@@ -12,6 +12,7 @@ use Rattle.lit.proofs.Flips.{flipped-var, odd-false}
 use Rattle.circuit.specs.Walk.{Pair, firstCode, nextCode}
 use Rattle.circuit.specs.Ordered.{noPair, InOrder, flipIf, bitOf, runGates, valuesOf, givenFrom}
 use Rattle.circuit.proofs.Meaning.{flipIf-flipIf, odd-flipped}
+use Rattle.circuit.specs.Invariant.{val}
 
 pub length-givenFrom : (given : ℕ → Bool) (k n : ℕ) → length (givenFrom given k n) ≡ n
 unfolding givenFrom
@@ -43,10 +44,6 @@ run-keeps bs [] v h = refl
 run-keeps bs (q ∷ ps) v h =
     let b = (bitOf bs (q .larger) && bitOf bs (q .smaller)) ∷ [] in
     run-keeps (bs ++ b) ps v (omega (arith, length-append bs b)) ∙ List·getD-append bs b false v h
-
--- the bit of a code over n sources and the gates made
-unfoldable pub val : ℕ → (ℕ → Bool) → List Pair → ℕ → Bool
-val n given made t = bitOf (valuesOf made (givenFrom given 0 n)) t
 
 module _ (n : ℕ) (given : ℕ → Bool) where
   abbrev bits : List Pair → List Bool

@@ -19,10 +19,11 @@ use Rattle.circuit.specs.Graph.{In, Gate, Graph, outVar, defined, Define
 use Rattle.circuit.specs.Map.{noImage, imageIn}
 use Rattle.circuit.specs.Walk.{Net, Work, Out, reached, stopped, Look, mapped, refused, enter, isMiddle, lookAt, look, andThen, throughInputs, answer, walk, stackRoom, walkAll, settle}
 use Rattle.circuit.proofs.Tests.{Same, same, other, sameTest}
-use Rattle.circuit.proofs.Map.{entry, Looked, gone, found, looked}
+use Rattle.circuit.proofs.Map.{Looked, gone, found, looked}
 use Rattle.circuit.proofs.Lists.{In-cases, In-getD, In-unmap}
 use Rattle.circuit.proofs.Graph.{GateFound, noGate, aGate, gateFound, Plus, Plus-step, Uses-first, Uses-second}
-use Rattle.circuit.proofs.Invariant.{Sized, Inv, Grown, Settled, settle-ok}
+use Rattle.circuit.proofs.Invariant.{Grown, Settled, settle-ok}
+use Rattle.circuit.specs.Invariant.{Sized, Inv, entry}
 
 -- the path leads to the literal c: each literal on it reaches c in one step or more
 abbrev pub Leads : Graph → List ℕ → ℕ → Type 0

@@ -14,6 +14,7 @@ use Rattle.circuit.specs.Machine.{Frame, pathOf, frameWord, stackWords}
 use Rattle.circuit.specs.Ordered.{noPair}
 use Rattle.circuit.specs.Outcome.{gatesOf, pairWords, pairsOf}
 use Rattle.circuit.proofs.Tests.{last-or}
+use Rattle.circuit.specs.Claims.{gateAt}
 
 -- a word of the stack holds a literal and a phase
 pub word-lit : (f : Frame) → frameWord f / 2 ≡ f .lit
@@ -72,9 +73,6 @@ gates-length [] = refl
 gates-length (o ∷ []) = omega arith
 gates-length (o ∷ a ∷ []) = omega arith
 gates-length (o ∷ a ∷ b ∷ ws) = omega (arith, gates-length ws)
-
-abbrev pub gateAt : List ℕ → ℕ → Gate
-gateAt ws k = record { output = getD ws (3 * k) 0; first = getD ws (3 * k + 1) 0; second = getD ws (3 * k + 2) 0 }
 
 pub gates-in : (ws : List ℕ) (k : ℕ) → k < length ws / 3 → In (gateAt ws k) (gatesOf ws)
 gates-in [] k h = absurd (omega arith)

@@ -22,15 +22,18 @@ use Rattle.circuit.specs.Outcome.{Lent, Outcome, circuitOf, limit, total
 abbrev pub noGate : Gate
 noGate = record { output = 0; first = 0; second = 0 }
 
--- the circuit that is lent: G is a third of the flat gates' words, rounded down, and the k-th gate is the words 3k, 3k + 1 and 3k + 2; all else as it is lent
+-- gate k of a flat list is the words 3k, 3k + 1 and 3k + 2
+abbrev pub gateAt : List ℕ → ℕ → Gate
+gateAt ws k = record { output = getD ws (3 * k) 0; first = getD ws (3 * k + 1) 0; second = getD ws (3 * k + 2) 0 }
+
+-- the circuit that is lent: G is a third of the flat gates' words, rounded down; all else as it is lent
 pub record IsLent (l : Lent) (C : Circuit) : Type 0 where
   pub top : C .top ≡ l .circuit .top .0
   pub inputs : C .inputs ≡ l .inputs
   pub states : C .states ≡ l .states
   pub nexts : C .nexts ≡ l .nexts
   pub gateCount : length (C .gates) ≡ length (l .gates) / 3
-  pub gates : (k : ℕ) → k < length (C .gates)
-      → getD (C .gates) k noGate ≡ record { output = getD (l .gates) (3 * k) 0; first = getD (l .gates) (3 * k + 1) 0; second = getD (l .gates) (3 * k + 2) 0 }
+  pub gates : (k : ℕ) → k < length (C .gates) → getD (C .gates) k noGate ≡ gateAt (l .gates) k
   pub counts : C .counts ≡ l .circuit .counts
   pub roots : C .roots ≡ l .roots
   pub flags : (C .trim ≡ l .circuit .trim) × (C .hash ≡ l .circuit .hash) × (C .fold ≡ l .circuit .fold)

@@ -9,4 +9,5 @@ pub mod Claims
 pub mod Tested
 pub mod Demands
 pub mod Machine
+pub mod Invariant
 pub mod Lending

@@ -1,4 +1,4 @@
--- The walk as a machine, a step at a time, over a stack of literals: what a loop does. That it comes to what `walk` comes to, that each step brings it
+-- The walk as a machine, a step at a time, with a stack of literals: what a loop does. That it comes to what `walk` comes to, that each step brings it
 -- nearer to its end, and what stays true on the way is proved in proofs/Machine.antt. Assumes nothing.
 use Prim.Native.Nat.{ℕ, _+_, _*_}
 use mathlib.Core.Bool.{Bool, true, false, cond}

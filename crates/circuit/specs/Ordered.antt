@@ -67,7 +67,7 @@ orderedGraph O = graph (given O false false false)
 abbrev pub noPair : Pair
 noPair = record { larger = 0; smaller = 0 }
 
--- over n sources: each gate's code exceeds its first input, which is not below its second
+-- where there are n sources: each gate's code exceeds its first input, which is not below its second
 abbrev pub InOrder : ℕ → List Pair → Type 0
 InOrder n gates =
     (j : ℕ) → j < length gates → (getD gates j noPair .smaller ≤ getD gates j noPair .larger) × (getD gates j noPair .larger < firstCode n + 2 * j)

@@ -131,9 +131,9 @@ unfoldable pub conclusion : Lent → Out
 conclusion l =
     orStop (tooBig (circuitOf l)) TooBig (orStop (misshapen l) Misshapen (orStop (tooShort l (circuitOf l)) Short (renumber (circuitOf l))))
 
--- words written over the front of a lent list; the others stay
+-- words written onto the front of a lent list, as far as it goes; its other words stay
 abbrev pub onto : List ℕ → List ℕ → List ℕ
-onto ws lent = ws ++ drop (length ws) lent
+onto ws lent = take (length lent) ws ++ drop (length ws) lent
 
 abbrev pub zeros : ℕ → List ℕ
 zeros n = replicate n 0

@@ -3,6 +3,9 @@
 use lit::Lit;
 use lit::Var;
 
+// The largest V, I, L, G and R that are taken: `limit` of specs/Outcome.antt.
+pub const LIMIT: usize = 1048575;
+
 // Why a circuit is refused; the literal is the one at fault.
 pub enum Refusal {
     TooBig,

@@ -13,6 +13,7 @@ use Rattle.circuit.specs.Graph.{Gate}
 use Rattle.circuit.specs.Outcome.{gatesOf}
 use Rattle.circuit.proofs.Words.{gates-length}
 use Rattle.circuit.proofs.Words as W
+use Rattle.circuit.specs.Claims.{gateAt}
 use Rattle.checks.specs.declared.Found.{Found}
 use Rattle.checks.specs.declared.Found.the-variants as F
 use Rattle.checks.specs.declared.Check.the-variants.{Passed, Failed}
@@ -52,7 +53,7 @@ unfolding defineSources
 sources-end t ds i h = rw (drop-at-end ds i h)
 
 -- gates, of flat words
-pub gates-at : (ws : List ℕ) (k : ℕ) → k < length ws / 3 → getD (gatesOf ws) k noGate ≡ W.gateAt ws k
+pub gates-at : (ws : List ℕ) (k : ℕ) → k < length ws / 3 → getD (gatesOf ws) k noGate ≡ gateAt ws k
 gates-at [] k h = absurd (omega arith)
 gates-at (o ∷ []) k h = absurd (omega arith)
 gates-at (o ∷ a ∷ []) k h = absurd (omega arith)

@@ -1,4 +1,4 @@
--- Filling the table of definitions: checks 5 and 6 as the code makes them, over words. Assumes nothing.
+-- Filling the table of definitions: checks 5 and 6 as the code makes them, on words. Assumes nothing.
 use Prim.Native.Nat.{ℕ, _+_, _%_, _^_}
 use mathlib.Core.Bool.{cond}
 use mathlib.Core.List.{List, [], _∷_}
@@ -38,7 +38,7 @@ unfoldable pub defineSources : List ℕ → List ℕ → Defined
 defineSources t [] = tabled t F.Nothing
 defineSources t (d ∷ ds) = andThen (defineAt t d 1) (λ w. defineSources w ds)
 
--- the mark of gate k, as far as a word holds it
+-- the mark of gate k. The remainder is there so that every number has a mark: where check 1 has passed it changes nothing
 unfoldable pub markOf : ℕ → ℕ
 markOf k = (k + 2) % 2 ^ 32
 
@@ -51,7 +51,7 @@ unfoldable pub defineGates : List ℕ → List Gate → ℕ → Defined
 defineGates t [] k = tabled t F.Nothing
 defineGates t (g ∷ gs) k = andThen (defineAt t (g .output) (markOf k)) (λ w. defineGates w gs (k + 1))
 
--- a table, and what the checks over it say
+-- a table, and what the checks say of it
 pub record Judged : Type 0 where
   pub words : List ℕ
   pub said : Check

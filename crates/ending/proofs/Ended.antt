@@ -10,9 +10,8 @@ use Rattle.circuit.specs.declared.Answer.{Answer}
 use Rattle.circuit.specs.declared.Answer.the-variants.{Renumbered, Refused}
 use Rattle.circuit.specs.declared.Refusal.{Refusal}
 use Rattle.circuit.specs.Map.{noImage}
-use Rattle.circuit.specs.Outcome.{Lent, outcomeOf, circuitOf, mapWords, scratchWords, zeros}
+use Rattle.circuit.specs.Outcome.{Lent, outcomeOf, circuitOf, mapWords, scratchWords, zeros, onto}
 use Rattle.circuit.proofs.Words.{gates-length}
-use Rattle.lent.specs.Over.{over}
 use Rattle.ending.specs.declared.Walked.{Walked}
 use Rattle.ending.specs.declared.Walked.the-variants.{Reached, Stopped}
 use Rattle.ending.specs.declared.Fronts.{Fronts}
@@ -48,7 +47,7 @@ module _ (l : Lent) {v : ℕ} (isTop : v ≡ l .circuit .top .0) where
   finished {n = n} {r = r} {s = s} e f h =
       rw e
       (ap (λ (x : Answer). outcomeOf x (l .map) n r (l .gatesOut) s) h
-      ∙ outcome-eq _ refl (f .nextsOver) (f .rootsOver) refl (f .clear ∙ ap (λ (k : ℕ). over (zeros k) (l .scratch)) scratch-words))
+      ∙ outcome-eq _ refl (f .nextsOnto) (f .rootsOnto) refl (f .clear ∙ ap (λ (k : ℕ). onto (zeros k) (l .scratch)) scratch-words))
 
   pub cleared : {m n r g s : List ℕ} {e : Walked} {why : Refusal} → e ≡ Stopped why
       → Cleared (record {
@@ -64,6 +63,6 @@ module _ (l : Lent) {v : ℕ} (isTop : v ≡ l .circuit .top .0) where
   unfolding ended
   cleared {why = why} e k =
       rw e
-      (outcome-eq (Refused why) (k .noImages ∙ ap (λ (j : ℕ). over (replicate (j + 1) noImage) (l .map)) isTop) (k .noNexts) (k .noRoots)
-      (k .noGates ∙ ap (λ (j : ℕ). over (zeros (2 * j)) (l .gatesOut)) (sym (gates-length (l .gates))))
-      (k .noWork ∙ ap (λ (j : ℕ). over (zeros j) (l .scratch)) scratch-words))
+      (outcome-eq (Refused why) (k .noImages ∙ ap (λ (j : ℕ). onto (replicate (j + 1) noImage) (l .map)) isTop) (k .noNexts) (k .noRoots)
+      (k .noGates ∙ ap (λ (j : ℕ). onto (zeros (2 * j)) (l .gatesOut)) (sym (gates-length (l .gates))))
+      (k .noWork ∙ ap (λ (j : ℕ). onto (zeros j) (l .scratch)) scratch-words))

@@ -140,7 +140,7 @@ fn image(found: Image) {
     }
 }
 
-fn outcome(answer: Answer) {
+pub fn outcome(answer: Answer) {
     match answer {
         Answer::Renumbered(summary) => {
             say::counted(b"made ", summary.made as u64);

@@ -1,9 +1,12 @@
 // Runs the documents' examples and prints a line for each. The literals' stand in `lits.rt`; the tokens' and the circuits' in the file `stdin`
-// beside `src`, a line each. What is printed is held to the file `stdout`, which was written from the documents and not by this program.
+// beside `src`, a line each; the token reader's and the gate records' in `readings.rt` and `records.rt`. What is printed is held to the file `stdout`,
+// which was written from the documents and not by this program.
 mod circuits;
 mod fields;
 mod lists;
 mod lits;
+mod readings;
+mod records;
 mod say;
 mod show;
 mod tokens;
@@ -16,6 +19,8 @@ fn main() {
     let mut examples = io::large_buffer();
     let n = io::read_full(STDIN_FILENO, &mut examples);
     lines(&examples[..n]);
+    readings::run();
+    records::run();
 }
 
 // Each line but its newline, in turn.

@@ -4,14 +4,12 @@ ghost use Prim.Native.Nat.{_+_, _*_, _^_, _<_};
 ghost use lib.ListN.{length};
 ghost use Rattle.circuit.specs.Circuit.{storeFrom};
 ghost use Rattle.circuit.specs.Ordered.{imagesIn};
-ghost use Rattle.lent.specs.Over.{over};
 ghost use Rattle.images.specs.Begin.{begun};
+ghost use Rattle.circuit.specs.Outcome.{onto};
+use circuit::LIMIT;
 use lent::map;
 use lent::words;
 use lit::Lit;
-
-// The most inputs, and the most latches, that get codes.
-const LIMIT: usize = 1048575;
 
 // Gives the literals of a list the codes first, first + 2, ..
 fn store_from(map: &mut [u32], literals: &[u32], first: u32)
@@ -44,9 +42,9 @@ pub fn begin(map: &mut [u32], inputs: &[u32], states: &[u32])
     store_from(map, states, (2 + 2 * inputs.len()) as u32);
 }
 
-// The image of each literal of a list, over the front of another.
+// The image of each literal of a list, onto the front of another.
 pub fn images(map: &[u32], literals: &[u32], out: &mut [u32])
-    ensures { λ _. ⌜ now (out .exit) ≡ over (imagesIn (now (map .entry)) (now (literals .entry))) (now (out .entry)) ⌝ }
+    ensures { λ _. ⌜ now (out .exit) ≡ onto (imagesIn (now (map .entry)) (now (literals .entry))) (now (out .entry)) ⌝ }
 {
     let mut i = 0;
     while i < literals.len() {

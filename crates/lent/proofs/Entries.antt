@@ -13,8 +13,9 @@ use Rattle.circuit.specs.declared.Image.the-variants.{Absent, Code}
 use Rattle.circuit.specs.Map.{noImage, imageIn, imageOf, store, codeOf}
 use Rattle.circuit.specs.Circuit.{storeFrom, start}
 use Rattle.circuit.specs.Ordered.{imagesIn}
-use Rattle.circuit.proofs.Map.{entry, no-image, code-image}
-use Rattle.lent.proofs.Rows.{getD-any, over-more, drop-at-one, drop-at-end}
+use Rattle.circuit.proofs.Map.{no-image, code-image}
+use Rattle.circuit.specs.Invariant.{entry}
+use Rattle.lent.proofs.Rows.{getD-any, onto-more, drop-at-one, drop-at-end}
 
 -- `i` is the code's own index
 pub image-past : (m : List ℕ) (c : Lit) (i : ℕ) → i ≡ var (c .0) → length m ≤ i → Absent ≡ imageIn m (c .0)
@@ -85,4 +86,4 @@ pub images-more : (m ls o o′ : List ℕ) (i x : ℕ) (j : Image) (l : Lit) →
     → x ≡ codeOf j → j ≡ imageIn m (l .0) → l ≡ literal (getD ls i 0) → set o′ i x ≡ take (i + 1) (imagesIn m ls) ++ drop (i + 1) o
 images-more m ls o o′ i x j l h k d f g e =
     let b : x ≡ getD (imagesIn m ls) i 0 = f ∙ ap codeOf (g ∙ ap (λ (y : Lit). imageIn m (y .0)) e) ∙ images-at m ls i h in
-    rw d (over-more (imagesIn m ls) o i x (omega (arith, images-length m ls)) k b)
+    rw d (onto-more (imagesIn m ls) o i x (omega (arith, images-length m ls)) k b)

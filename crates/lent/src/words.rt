@@ -2,7 +2,7 @@
 ghost use mathlib.Core.Path.{_≡_};
 ghost use lib.ListN.{length, replicate};
 ghost use Rattle.lit.specs.Code.{var};
-ghost use Rattle.lent.specs.Over.{over};
+ghost use Rattle.circuit.specs.Outcome.{onto};
 use lit::Lit;
 
 // The word as a number that counts or indexes.
@@ -21,7 +21,7 @@ pub fn place_of(lit: Lit) -> usize
 
 // Puts the value into the first `count` words, as far as there are so many.
 pub fn fill_front(words: &mut [u32], count: usize, value: u32)
-    ensures { λ _. ⌜ now (words .exit) ≡ over (replicate count value) (now (words .entry)) ⌝ }
+    ensures { λ _. ⌜ now (words .exit) ≡ onto (replicate count value) (now (words .entry)) ⌝ }
 {
     let mut i = 0;
     while i < count {

@@ -6,7 +6,7 @@ use contract.Lifetimes.{Lfts}
 use denote.Triple.Clauses.{AtExit}
 use borrow.Fn.Kinds.{PK, RK, Out, Dens, resT, endedOf}
 
--- what is lent to a function of parameters ps and a result r, over n lifetimes, as it is when the function returns
+-- what is lent to a function of parameters ps and a result r, with n lifetimes, as it is when the function returns
 abbrev pub Left : (n : ℕ) (ps : List (PK n)) (r : RK n) → Lfts n → Type 0
 Left n ps r κs = AtExit (endedOf n ps r) κs
 

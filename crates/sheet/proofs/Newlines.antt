@@ -16,12 +16,7 @@ use Rattle.sheet_lines.specs.Lines.{spaced, ended, orderedWord, refusedWord, re
 use Rattle.sheet_read.specs.Sheet.{readOf}
 use Rattle.sheet.specs.Circuit.{circuitOn}
 use Rattle.sheet_lines.specs.Text.{beside, refusedText, orderedText}
-use Rattle.sheet.specs.Report.{textOf, outText, readText, reportOf}
-
--- a newline stands last
-pub record Ends (bs : List ℕ) : Type 0 where
-  pub front : List ℕ
-  pub last : bs ≡ front ++ (10 ∷ [])
+use Rattle.sheet.specs.Report.{textOf, outText, readText, reportOf, Ends}
 
 after : (xs : List ℕ) {bs : List ℕ} → Ends bs → Ends (xs ++ bs)
 after xs e = record { front = xs ++ e .front; last = ap (λ (l : List ℕ). xs ++ l) (e .last) ∙ sym (append-assoc xs (e .front) (10 ∷ [])) }

@@ -1,14 +1,14 @@
 -- Whole sheets and their whole texts by example, worked out from document 01, and the circuit on a sheet field by field: each is one on which a neighbouring
 -- definition answers otherwise. By computation. Assumes nothing.
 use Prim.Native.Nat.{ℕ, zero, suc}
-use mathlib.Core.Path.{_≡_, refl}
+use mathlib.Core.Path.{_≡_, refl, ap}
 use mathlib.Core.Bool.{Bool, true, false}
 use mathlib.Core.List.{List, [], _∷_, _++_}
 use native.Mathlib.Omega.{arith}
-use lib.ListN.{length, replicate}
+use lib.ListN.{length, getD, replicate, length-append}
 use Rattle.token.specs.Format.{digitsOf}
 use Rattle.token.specs.Answer.{binaryAt, goOnAt}
-use Rattle.lit.specs.Code.{variable, flipped}
+use Rattle.lit.specs.Code.{isOdd, variable, flipped}
 use Rattle.circuit.specs.declared.CircuitRecord.{CircuitRecord}
 use Rattle.circuit.specs.Map.{entryImage, imageIn, store, codeOf}
 use Rattle.circuit.specs.Graph.{Gate}
@@ -20,7 +20,7 @@ use Rattle.sheet_lines.specs.Lines.{refusedLine, orderedLine, gateLine, imageLi
 use Rattle.sheet_lines.specs.Text.{beside, orderedText, refusedText}
 use Rattle.sheet_read.specs.Sheet.{numbersAt, rootCount, tooLarge, codeCount, listsRead, sheetRead, readOf}
 use Rattle.sheet.specs.Circuit.{statesOf, nextsOf, inputCodes, gateWords, latchWords, rootCodes, recordOn, circuitOn}
-use Rattle.sheet.specs.Report.{textOf, reportOf}
+use Rattle.sheet.specs.Report.{textOf, reportOf, Ends}
 use Rattle.sheet_read.specs.Promise.{Taken}
 use Rattle.sheet.specs.Promise.{Words, circuitIn, Shaped, Roomy}
 
@@ -29,7 +29,7 @@ use Rattle.sheet.specs.Promise.{Words, circuitIn, Shaped, Roomy}
 pub told :
     reportOf (0x03 ∷ 0x02 ∷ 0x00 ∷ 0x01 ∷ 0x01 ∷ 0x00 ∷ 0x00 ∷ 0x00 ∷ 0x00 ∷ 0x00 ∷ 0x02 ∷ 0x04 ∷ 0x06 ∷ 0x02 ∷ 0x04 ∷ 0x06 ∷ [])
     ≡ bytes "ordered 3 2 0 1\n6 4 2\nr 6\n"
-unfolding reportOf readOf sheetRead listsRead numbersAt binaryAt goOnAt tooLarge rootCount codeCount circuitOn renumber codes walkAll walked start
+unfolding reportOf readOf sheetRead listsRead numbersAt binaryAt goOnAt tooLarge rootCount codeCount circuitOn isOdd renumber codes walkAll walked start
     store flipped walk look imageIn entryImage throughInputs settle settleOn settleAs already nextCode firstCode folded codeOf orderedOf imagesIn textOf
     orderedText orderedLine gateLine imageLine digitsOf
 told = refl
@@ -74,7 +74,7 @@ pub settings-pinned :
     ≡ bytes "ordered 8 3 2 3\n12 4 2\n14 11 8\n16 14 12\nn 15\nn 12\nr 12\nr 13\nr 14\nr 5\n")
     × (reportOf (sheet 7 inputs gates latches roots)
     ≡ bytes "ordered 7 3 2 2\n12 11 8\n14 4 2\nn 13\nn 14\nr 14\nr 15\nr 12\nr 5\n")
-unfolding reportOf readOf sheetRead listsRead numbersAt binaryAt goOnAt tooLarge rootCount codeCount circuitOn renumber codes walkAll walked start
+unfolding reportOf readOf sheetRead listsRead numbersAt binaryAt goOnAt tooLarge rootCount codeCount circuitOn isOdd renumber codes walkAll walked start
     store flipped walk look imageIn entryImage throughInputs settle settleOn settleAs already nextCode firstCode folded codeOf orderedOf imagesIn textOf
     orderedText orderedLine gateLine imageLine digitsOf
 settings-pinned = (refl, refl, refl, refl, refl, refl, refl, refl)
@@ -89,7 +89,7 @@ pub kinds-pinned :
     ∷ 18 ∷ 2 ∷ 12 ∷ 15 ∷ 7 ∷ 16 ∷ 17 ∷ 0 ∷ 1 ∷ 3 ∷ 4 ∷ 5 ∷ 8 ∷ 9 ∷ 10 ∷ 11 ∷ 13 ∷ 14 ∷ 19 ∷ 6 ∷ [])
     ≡ bytes "ordered 9 2 3 4\n12 5 3\n14 4 2\n16 14 7\n18 16 12\nn 6\nn 9\nn 0\nr 18\nr 2\n"
     ++ bytes "r 14\nr 13\nr 7\nr 16\nr 17\nr 0\nr 1\nr 3\nr 4\nr 5\nr 8\nr 9\nr 10\nr 11\nr 15\nr 12\nr 19\nr 6\n"
-unfolding reportOf readOf sheetRead listsRead numbersAt binaryAt goOnAt tooLarge rootCount codeCount circuitOn renumber codes walkAll walked start
+unfolding reportOf readOf sheetRead listsRead numbersAt binaryAt goOnAt tooLarge rootCount codeCount circuitOn isOdd renumber codes walkAll walked start
     store flipped walk look imageIn entryImage throughInputs settle settleOn settleAs already nextCode firstCode folded codeOf orderedOf imagesIn textOf
     orderedText orderedLine gateLine imageLine digitsOf
 kinds-pinned = refl
@@ -116,7 +116,7 @@ pub pinned :
     ≡ bytes "refused 4 4294967296\n")
     × (reportOf (0x01 ∷ 0x01 ∷ 0x00 ∷ 0x00 ∷ 0x00 ∷ 0x00 ∷ 0x00 ∷ 0x00 ∷ 0x00 ∷ 0x00 ∷ 0x04 ∷ []) ≡ bytes "refused 4 4\n")
     × (reportOf (0x01 ∷ 0x02 ∷ 0x00 ∷ 0x00 ∷ 0x00 ∷ 0x00 ∷ 0x00 ∷ 0x00 ∷ 0x00 ∷ 0x00 ∷ 0x02 ∷ 0x03 ∷ []) ≡ bytes "refused 5 3\n")
-unfolding reportOf readOf sheetRead listsRead numbersAt binaryAt goOnAt tooLarge rootCount codeCount circuitOn renumber codes refusedText beside
+unfolding reportOf readOf sheetRead listsRead numbersAt binaryAt goOnAt tooLarge rootCount codeCount circuitOn isOdd renumber codes refusedText beside
     refusedLine digitsOf
 pinned = (refl, refl, refl, refl, refl, refl, refl, refl, refl, refl, refl, refl)
 
@@ -144,7 +144,7 @@ pub refusals-pinned :
     × (reportOf (sheet 0 inputs (20 ∷ 2 ∷ 4 ∷ 13 ∷ 4 ∷ 2 ∷ 16 ∷ 20 ∷ 1 ∷ 18 ∷ 10 ∷ 15 ∷ 22 ∷ 18 ∷ 13 ∷ []) latches roots) ≡ bytes "refused 7 15\n")
     -- 8: gate 20(2,17), where 16(20,1): the path is 20, 17, 20 and then 17 is its middle
     × (reportOf (sheet 0 inputs (20 ∷ 2 ∷ 17 ∷ 13 ∷ 4 ∷ 2 ∷ 16 ∷ 20 ∷ 1 ∷ 18 ∷ 10 ∷ 9 ∷ 22 ∷ 18 ∷ 13 ∷ []) latches roots) ≡ bytes "refused 8 17\n")
-unfolding reportOf readOf sheetRead listsRead numbersAt binaryAt goOnAt tooLarge rootCount codeCount circuitOn renumber codes walkAll walked start
+unfolding reportOf readOf sheetRead listsRead numbersAt binaryAt goOnAt tooLarge rootCount codeCount circuitOn isOdd renumber codes walkAll walked start
     store flipped walk look imageIn entryImage throughInputs settle settleOn settleAs already nextCode firstCode folded codeOf orderedOf imagesIn textOf
     orderedText orderedLine gateLine imageLine refusedText beside refusedLine digitsOf
 refusals-pinned = (refl, refl, refl, refl, refl, refl, refl, refl, refl, refl, refl, refl, refl, refl)
@@ -214,7 +214,7 @@ pub circuit-pinned :
     × (statesOf (30 ∷ 19 ∷ 32 ∷ 22 ∷ []) ≡ 30 ∷ 32 ∷ []) × (nextsOf (30 ∷ 19 ∷ 32 ∷ 22 ∷ []) ≡ 19 ∷ 22 ∷ [])
     × (statesOf (30 ∷ 19 ∷ 32 ∷ []) ≡ 30 ∷ []) × (nextsOf (30 ∷ 19 ∷ 32 ∷ []) ≡ 19 ∷ [])
     × (statesOf (30 ∷ []) ≡ []) × (nextsOf (30 ∷ []) ≡ []) × (statesOf [] ≡ []) × (nextsOf [] ≡ [])
-unfolding circuitOn
+unfolding circuitOn isOdd
 circuit-pinned = (
   refl,
   refl,
@@ -269,3 +269,12 @@ words-pinned = (fit, λ w. omega (arith, w 1 (omega arith)))
     fit zero h = omega arith
     fit (suc zero) h = omega arith
     fit (suc (suc i)) h = absurd (omega arith)
+
+-- a newline last, with bytes before it and alone; and one that is not last
+pub ends-pinned : Ends (7 ∷ 10 ∷ []) × Ends (10 ∷ []) × (Ends (10 ∷ 7 ∷ []) → ⊥)
+ends-pinned = (record { front = 7 ∷ []; last = refl }, record { front = []; last = refl }, λ e. other (e .front) (e .last))
+  where
+    other : (front : List ℕ) → 10 ∷ 7 ∷ [] ≡ front ++ (10 ∷ []) → ⊥
+    other [] e = let z : _≡_ {A = ℕ} 2 1 = ap length e in omega arith
+    other (x ∷ []) e = let z : _≡_ {A = ℕ} 7 10 = ap (λ (l : List ℕ). getD l 1 0) e in omega arith
+    other (x ∷ y ∷ front) e = let n = ap length e in omega (arith, length-append front (10 ∷ []))

@@ -1,7 +1,7 @@
 -- The theorems of the report. What each rests on stands in the laws' files beside this one. Document 01's sheet and its text, sheets with every list under each
 -- setting of the flags and with roots of every kind, those refused by each number, all as bytes, and the circuit on a sheet, field by field, stand in Pins.
 -- Assumes nothing.
-pub use Rattle.sheet.proofs.Pins.{told, settings-pinned, kinds-pinned, pinned, refusals-pinned, longest-pinned, circuit-pinned, shapes-pinned, shapes-taken, rooms-pinned, words-pinned}
+pub use Rattle.sheet.proofs.Pins.{told, settings-pinned, kinds-pinned, pinned, refusals-pinned, longest-pinned, circuit-pinned, shapes-pinned, shapes-taken, rooms-pinned, words-pinned, ends-pinned}
 use Prim.Native.Nat.{ℕ, _≤_, _<_}
 use mathlib.Core.Path.{_≡_, sym, _∙_}
 use mathlib.Core.List.{List}
@@ -17,12 +17,11 @@ use Rattle.circuit.proofs.Outcome.{conclusion-of}
 use Rattle.sheet_lines.specs.Lines.{refusedLine}
 use Rattle.sheet_read.specs.Sheet.{sheetLimit}
 use Rattle.sheet.specs.Circuit.{recordOn}
-use Rattle.sheet.specs.Report.{reportOf}
+use Rattle.sheet.specs.Report.{reportOf, Ends}
 use Rattle.sheet.specs.Promise.{Shaped, Roomy, circuitIn}
 use Rattle.sheet.proofs.Answers as answers
 use Rattle.sheet.proofs.Room as room
 use Rattle.sheet.proofs.Newlines as newlines
-use Rattle.sheet.proofs.Newlines.{Ends}
 use Rattle.sheet.proofs.Reports as reports
 use Rattle.sheet.proofs.report.Kinds as report-kinds
 use Rattle.sheet.proofs.report.Reads as report-contract

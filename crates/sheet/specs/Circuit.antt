@@ -1,10 +1,8 @@
 -- The circuit on a sheet that is read: its lists are parts of the codes. Assumes nothing.
-use Prim.Native.Nat.{ℕ, _+_, _*_, _/_, _%_}
-use mathlib.Core.Bool.{Bool}
+use Prim.Native.Nat.{ℕ, _+_, _*_, _/_}
 use mathlib.Core.List.{List, [], _∷_}
-use lib.Dec.{eqb}
 use lib.ListN.{take, drop}
-use Rattle.lit.specs.Code.{variable}
+use Rattle.lit.specs.Code.{isOdd, variable}
 use Rattle.circuit.specs.declared.CircuitRecord.{CircuitRecord}
 use Rattle.circuit.specs.Circuit.{Circuit}
 use Rattle.circuit.specs.Outcome.{gatesOf}
@@ -34,18 +32,15 @@ latchWords h cs = take (2 * latchCount h) (drop (inputCount h + 3 * gateCount h)
 abbrev pub rootCodes : List ℕ → List ℕ → List ℕ
 rootCodes h cs = drop (inputCount h + 3 * gateCount h + 2 * latchCount h) cs
 
-abbrev pub isSet : ℕ → Bool
-isSet n = eqb (n % 2) 1
-
 -- the circuit but for its lists; the flags are trim 1, hash 2, fold 4
 abbrev pub recordOn : List ℕ → CircuitRecord
 recordOn h =
     record {
       top = variable (topOf h);
       counts = rootCounts h;
-      trim = isSet (flagsOf h);
-      hash = isSet (flagsOf h / 2);
-      fold = isSet (flagsOf h / 4);
+      trim = isOdd (flagsOf h);
+      hash = isOdd (flagsOf h / 2);
+      fold = isOdd (flagsOf h / 4);
     }
 
 -- the circuit of a header and codes, however big a code is

@@ -1,6 +1,7 @@
 -- What the report program writes, as one function of the bytes that it is given. Assumes nothing.
 use Prim.Native.Nat.{ℕ}
-use mathlib.Core.List.{List}
+use mathlib.Core.Path.{_≡_}
+use mathlib.Core.List.{List, [], _∷_, _++_}
 use Rattle.circuit.specs.Walk.{Out, reached, stopped}
 use Rattle.circuit.specs.Circuit.{Circuit, renumber}
 use Rattle.circuit.specs.Ordered.{Ordered, orderedOf}
@@ -29,3 +30,8 @@ readText Whole C = outText C (renumber C)
 -- the text for a sheet
 unfoldable pub reportOf : List ℕ → List ℕ
 reportOf s = readText (readOf s .reading) (circuitOn (readOf s .header) (readOf s .codes))
+
+-- a newline stands last
+pub record Ends (bs : List ℕ) : Type 0 where
+  pub front : List ℕ
+  pub last : bs ≡ front ++ (10 ∷ [])

@@ -11,6 +11,7 @@ use Rattle.token.specs.declared.Reason.{Reason}
 use Rattle.token.specs.declared.Token.{Token}
 use Rattle.token.specs.declared.Token.the-variants.{Value, Refused}
 use Rattle.circuit.specs.Outcome.{onto}
+use Rattle.circuit.proofs.Outcome.{onto-long}
 use Rattle.sheet_read.specs.declared.Ended.the-variants.{After, Broken}
 use Rattle.sheet_read.specs.Sheet.{Run, runOf, prepended, onward, numbersAt}
 use Rattle.sheet_read.specs.Promise.{Fills}
@@ -68,6 +69,7 @@ module _ {s : List ℕ} {at : ℕ} {list₀ list : List ℕ} {i place : ℕ} (f 
       let n : length ns ≡ i = ap length e ∙ length-take-le i list (omega (arith, f .same, f .inside)) in
       sym (take-append-drop i list) ∙ ap (λ (l : List ℕ). take i list ++ l) (f .rest)
       ∙ ap (λ (l : List ℕ). l ++ drop i list₀) (sym e) ∙ ap (λ (k : ℕ). ns ++ drop k list₀) (sym n)
+      ∙ sym (onto-long ns list₀ (omega (arith, f .inside)))
 
   ending : (r : Run) → r .numbers ≡ [] → numbersAt s at (length list₀) ≡ behind (take i list) r → Fills (numbersAt s at (length list₀)) (r .ended) list₀ list
   ending r none e =

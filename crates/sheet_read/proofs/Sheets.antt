@@ -11,7 +11,7 @@ use lib.Seq.{length-take-le, drop-append-le, drop-length}
 use Rattle.token.specs.Answer.{reasonNumber}
 use Rattle.token.specs.declared.Reason.{Reason}
 use Rattle.circuit.specs.Outcome.{onto}
-use Rattle.circuit.proofs.Outcome.{onto-length, onto-take}
+use Rattle.circuit.proofs.Outcome.{onto-long, onto-whole, onto-none, onto-length, onto-take}
 use Rattle.sheet_read.specs.declared.Ended.{Ended}
 use Rattle.sheet_read.specs.declared.Ended.the-variants.{After, Broken}
 use Rattle.sheet_read.specs.declared.Reading.{Reading}
@@ -21,24 +21,21 @@ use Rattle.sheet_read.specs.Promise.{Fills, Reads, ReadsCodes, Taken}
 use Rattle.sheet_read.proofs.Runs.{run-few, run-whole}
 use Rattle.sheet_read.proofs.Headers.{codes-few}
 
--- words over the front of a part are words over the front of the whole
+-- words onto the front of a part are words onto the front of the whole
 pub onto-front : (ns cs front cs′ : List ℕ) (n : ℕ) → length ns ≤ n → n ≤ length cs → front ≡ onto ns (take n cs) → cs′ ≡ front ++ drop n cs → cs′ ≡ onto ns cs
 onto-front ns cs front cs′ n few room e f =
     let long : length (take n cs) ≡ n = length-take-le n cs room in
-    f ∙ ap (λ (l : List ℕ). l ++ drop n cs) e ∙ append-assoc ns (drop (length ns) (take n cs)) (drop n cs)
+    f ∙ ap (λ (l : List ℕ). l ++ drop n cs) (e ∙ onto-long ns (take n cs) (omega arith)) ∙ append-assoc ns (drop (length ns) (take n cs)) (drop n cs)
     ∙ ap (λ (l : List ℕ). ns ++ l) (sym (drop-append-le (length ns) (take n cs) (drop n cs) (omega arith)) ∙ ap (drop (length ns)) (take-append-drop n cs))
-
--- words over a whole list
-pub onto-all : (ns l : List ℕ) → length ns ≡ length l → onto ns l ≡ ns
-onto-all ns l e = ap (λ (k : ℕ). ns ++ drop k l) e ∙ ap (λ (x : List ℕ). ns ++ x) (drop-length l) ∙ append-nil ns
+    ∙ sym (onto-long ns cs (omega arith))
 
 -- the returns of `read_lists`
 module _ (s h cs : List ℕ) (at : ℕ) where
   pub lists-large : (r : Reading) → r ≡ Faulty 1 0 → tooLarge h ≡ true → ReadsCodes (headerRead s h (After at)) r cs cs
-  lists-large r e t = (rw t e, rw t)
+  lists-large r e t = (rw t e, rw t (sym (onto-none cs)))
 
   pub lists-flagged : (r : Reading) → r ≡ Faulty 2 0 → tooLarge h ≡ false → 7 < flagsOf h → ReadsCodes (headerRead s h (After at)) r cs cs
-  lists-flagged r e t f = (rw (t, lt-ltb 7 (flagsOf h) f) e, rw (t, lt-ltb 7 (flagsOf h) f))
+  lists-flagged r e t f = (rw (t, lt-ltb 7 (flagsOf h) f) e, rw (t, lt-ltb 7 (flagsOf h) f) (sym (onto-none cs)))
 
   module _ (within : tooLarge h ≡ false) (flags : flagsOf h ≤ 7) (n : ℕ) (count : n ≡ codeCount h) (room : n ≤ length cs)
       (end : Ended) (front cs′ : List ℕ) (fills₀ : Fills (numbersAt s at (length (take n cs))) end (take n cs) front) (left : cs′ ≡ front ++ drop n cs) where
@@ -92,7 +89,11 @@ header-kept s h (After at) = large (tooLarge h) (ltb 7 (flagsOf h)) (numbersAt s
 module _ (s h₀ cs₀ : List ℕ) where
   pub sheet-long : (r : Reading) → r ≡ Faulty 1 0 → sheetLimit < length s → Reads (readOf s) r h₀ h₀ cs₀ cs₀
   unfolding readOf sheetRead
-  sheet-long r e long = (rw (lt-ltb sheetLimit (length s) long) e, rw (lt-ltb sheetLimit (length s) long), rw (lt-ltb sheetLimit (length s) long))
+  sheet-long r e long = (
+    rw (lt-ltb sheetLimit (length s) long) e,
+    rw (lt-ltb sheetLimit (length s) long) (sym (onto-none h₀)),
+    rw (lt-ltb sheetLimit (length s) long) (sym (onto-none cs₀)),
+  )
 
   module _ (short : length s ≤ sheetLimit) (ten : length h₀ ≡ 10) (end : Ended) (h : List ℕ) (fills : Fills (numbersAt s 0 (length h₀)) end h₀ h) where
     abbrev run : Run
@@ -110,19 +111,22 @@ module _ (s h₀ cs₀ : List ℕ) where
 
     pub sheet-broken : (r : Reading) (why : Reason) (place : ℕ) → r ≡ Faulty (reasonNumber why) place → end ≡ Broken why place → Reads (readOf s) r h₀ h cs₀ cs₀
     sheet-broken r why place e k =
-        let x : readOf s ≡ readAs r (run .numbers) [] = read-as ∙ rw (k, e) in
-        (sym (ap (λ (y : Read). y .reading) x), header-is ∙ ap (λ (y : Read). onto (y .header) h₀) (sym x), ap (λ (y : Read). onto (y .codes) cs₀) (sym x))
+        let x : readOf s ≡ readAs r (run .numbers) [] = read-as ∙ rw (k, e) in (
+          sym (ap (λ (y : Read). y .reading) x),
+          header-is ∙ ap (λ (y : Read). onto (y .header) h₀) (sym x),
+          sym (onto-none cs₀) ∙ ap (λ (y : Read). onto (y .codes) cs₀) (sym x),
+        )
 
     pub sheet-lists : (r : Reading) (place : ℕ) (cs : List ℕ) → end ≡ After place → ReadsCodes (headerRead s h (After place)) r cs₀ cs
         → Reads (readOf s) r h₀ h cs₀ cs
     sheet-lists r place cs k reads =
         let long : length (run .numbers) ≡ length h₀ = run-whole s 0 10 place (sym ended-is ∙ k) ∙ sym ten in
-        let all : run .numbers ≡ h = sym (header-is ∙ onto-all (run .numbers) h₀ long) in
+        let all : run .numbers ≡ h = sym (header-is ∙ onto-whole (run .numbers) h₀ long) in
         let x : readOf s ≡ headerRead s h (After place) = read-as ∙ ap (headerRead s (run .numbers)) k
         ∙ ap (λ (l : List ℕ). headerRead s l (After place)) all in
         let kept : readOf s .header ≡ h = ap (λ (y : Read). y .header) x ∙ header-kept s h (After place) in (
           reads .0 ∙ ap (λ (y : Read). y .reading) (sym x),
-          sym (ap (λ (l : List ℕ). onto l h₀) kept ∙ onto-all h h₀ (ap length (sym all) ∙ long)),
+          sym (ap (λ (l : List ℕ). onto l h₀) kept ∙ onto-whole h h₀ (ap length (sym all) ∙ long)),
           reads .1 ∙ ap (λ (y : Read). onto (y .codes) cs₀) (sym x),
         )
 
@@ -182,13 +186,13 @@ pub record Got (s h cs : List ℕ) : Type 0 where
 pub sheet-got : (s h₀ h cs₀ cs : List ℕ) (r : Reading) → length h₀ ≡ 10 → length cs₀ ≡ 7161 → Reads (readOf s) r h₀ h cs₀ cs → r ≡ Whole → Got s h cs
 sheet-got s h₀ h cs₀ cs r ten room reads w =
     let t = sheet-taken s (sym (reads .0) ∙ w) in
-    let same : h ≡ readOf s .header = reads .1 ∙ onto-all (readOf s .header) h₀ (t .0 .ten ∙ sym ten) in
+    let same : h ≡ readOf s .header = reads .1 ∙ onto-whole (readOf s .header) h₀ (t .0 .ten ∙ sym ten) in
     let few : codeCount (readOf s .header) ≤ 7161 = codes-few (t .0) in
     record {
       taken = subst⁻¹ Taken same (t .0);
-      room = ap length (reads .2) ∙ onto-length (readOf s .codes) cs₀ (omega (arith, t .1)) ∙ room;
+      room = ap length (reads .2) ∙ onto-length (readOf s .codes) cs₀ ∙ room;
       header = same;
       codes =
           ap (λ (l : List ℕ). take (codeCount l) cs) same ∙ ap (take (codeCount (readOf s .header))) (reads .2)
-          ∙ onto-take (readOf s .codes) cs₀ (codeCount (readOf s .header)) (t .1);
+          ∙ onto-take (readOf s .codes) cs₀ (codeCount (readOf s .header)) (t .1) (omega (arith, few, room));
     }

@@ -16,12 +16,7 @@ use Rattle.token.specs.declared.Token.{Token}
 use Rattle.token.specs.declared.Token.the-variants.{Value, Refused}
 use Rattle.token.specs.declared.PairToken.the-variants.{Inputs}
 use Rattle.token.proofs.Groups.{eightAt, length-eight}
-
--- a number that is read has one to eight bytes, which stand within the bytes
-pub record Used (s : List ℕ) (at n : ℕ) : Type 0 where
-  pub some : 1 ≤ n
-  pub eight : n ≤ 8
-  pub inside : at + n ≤ length s
+use Rattle.token.specs.Claims.{Used, PairUsed}
 
 -- a number that is read is what its bytes write: k go on, and one more ends it
 pub record BinaryRead (s : List ℕ) (at v n : ℕ) : Type 0 where
@@ -111,12 +106,6 @@ pub pair-falls : (s : List ℕ) (at code a b used : ℕ) → pairAt s at code �
 pair-falls s at code a b used e =
     let p = pair-read s at code a b used e in
     (delta-from s (at + p .n) a b (p .m) (p .second) .0, delta-from s at code a (p .n) (p .first) .0)
-
--- a pair that is read has two to sixteen bytes, which stand within the bytes
-pub record PairUsed (s : List ℕ) (at used : ℕ) : Type 0 where
-  pub some : 2 ≤ used
-  pub sixteen : used ≤ 16
-  pub inside : at + used ≤ length s
 
 pub pair-used : (s : List ℕ) (at code a b used : ℕ) → pairAt s at code ≡ Inputs a b used → PairUsed s at used
 pair-used s at code a b used e =

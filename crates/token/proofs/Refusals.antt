@@ -14,15 +14,9 @@ use Rattle.token.specs.declared.Reason.the-variants.{LeadingZero, OverWi
 use Rattle.token.specs.declared.Token.{Token}
 use Rattle.token.specs.declared.Token.the-variants.{Value, Refused}
 use Rattle.token.specs.declared.PairToken.the-variants.{PairRefused}
+use Rattle.token.specs.Claims.{Everyone, NamesPlace, RefusedDelta, first, second}
 
 -- which reason
-
--- whoever reads a decimal number at the place answers t
-pub record Everyone (s : List ℕ) (at : ℕ) (t : Token) : Type 0 where
-  pub by-uint : uintAt s at ≡ t
-  pub by-header-field : (limit : ℕ) → headerFieldAt s at limit ≡ t
-  pub by-lit : (limit : ℕ) (assigning : Bool) → litAt s at limit assigning ≡ t
-  pub by-symbol-index : (limit : ℕ) → symbolIndexAt s at limit ≡ t
 
 -- what `uint` refuses everyone refuses
 pub everyone-refuses : (s : List ℕ) (at : ℕ) (why : Reason) → uintAt s at ≡ Refused why at → Everyone s at (Refused why at)
@@ -78,11 +72,6 @@ pub within-over : (limit at v n : ℕ) → limit < v → within limit at (Value 
 within-over limit at v n h = rw (lt-leb v limit h)
 
 -- the place
-
--- a token names the place given, if it refuses
-abbrev pub NamesPlace : ℕ → Token → Type 0
-NamesPlace at (Value v n) = Unit {0}
-NamesPlace at (Refused why place) = place ≡ at
 
 either : (at : ℕ) (test : Bool) (t u : Token) → NamesPlace at t → NamesPlace at u → NamesPlace at (cond test t u)
 either at true t u p q = p
@@ -143,11 +132,6 @@ lit-place s at limit assigning = go (uintAt s at) refl assigning
 pub symbol-index-place : (s : List ℕ) (at limit : ℕ) → NamesPlace at (symbolIndexAt s at limit)
 unfolding symbolIndexAt
 symbol-index-place s at limit = within-place limit at (uintAt s at) (uint-place s at)
-
--- a pair names the first byte of the delta that is refused: the first's, or, where that is read, the second's after it
-pub data RefusedDelta (s : List ℕ) (at code : ℕ) (why : Reason) (place : ℕ) : Type 0 where
-  first : deltaAt s at code ≡ Refused why place → place ≡ at → RefusedDelta s at code why place
-  second : (a n : ℕ) → deltaAt s at code ≡ Value a n → deltaAt s (at + n) a ≡ Refused why place → place ≡ at + n → RefusedDelta s at code why place
 
 named : (at : ℕ) (t : Token) (why : Reason) (place : ℕ) → NamesPlace at t → t ≡ Refused why place → place ≡ at
 named at t why place p e = subst (NamesPlace at) e p

@@ -16,6 +16,7 @@ use Rattle.token.specs.declared.Token.the-variants.{Value}
 use Rattle.token.specs.declared.PairToken.the-variants.{Inputs}
 use Rattle.token.proofs.Groups.{eightAt, groups-lt}
 use Rattle.token.proofs.Deltas.{binary-read, binary-used, pair-of}
+use Rattle.token.specs.Claims.{Bytes}
 
 -- grouped bytes are read
 
@@ -128,10 +129,6 @@ groups-only (suc k) (group {b} {bs} on small g) few same =
     suc-same e = omega arith
 
 -- the bytes of a number that is read
-
--- every byte is one
-abbrev pub Bytes : List ℕ → Type 0
-Bytes s = (i : ℕ) → getD s i 0 < 256
 
 bytes-take : (n : ℕ) (l : List ℕ) → Bytes l → Bytes (take n l)
 bytes-take zero l h i = omega arith

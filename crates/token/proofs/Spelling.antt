@@ -15,6 +15,7 @@ use Rattle.token.specs.Answer.{digitsAt, uintAt}
 use Rattle.token.specs.declared.Reason.the-variants.{NoDigit, LeadingZero, OverWidth}
 use Rattle.token.specs.declared.Token.the-variants.{Value, Refused}
 use Rattle.token.proofs.Decimals.{digit-low, digit-yes, decimal-snoc, decimal-grows, digits-within}
+use Rattle.token.specs.Claims.{DecimalUsed}
 
 -- every byte is a digit
 abbrev pub Digits : List ℕ → Type 0
@@ -295,12 +296,6 @@ module _ (s : List ℕ) (at v n : ℕ) (d : DecimalRead s at v n) where
 -- the bytes of a number that is read are its digits
 pub decimal-spelling : (s : List ℕ) (at v n : ℕ) → uintAt s at ≡ Value v n → take n (drop at s) ≡ digitsOf v
 decimal-spelling s at v n e = spelling s at v n (decimal-read s at v n e)
-
--- a decimal number has one to twenty bytes, which stand within the bytes
-pub record DecimalUsed (s : List ℕ) (at n : ℕ) : Type 0 where
-  pub some : 1 ≤ n
-  pub twenty : n ≤ 20
-  pub inside : at + n ≤ length s
 
 pub decimal-used : (s : List ℕ) (at v n : ℕ) → uintAt s at ≡ Value v n → DecimalUsed s at n
 decimal-used s at v n e =

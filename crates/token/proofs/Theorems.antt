@@ -13,12 +13,8 @@ use Rattle.token.specs.declared.PairToken.the-variants.{Inputs, PairRefu
 use Rattle.promise.specs.Determined.{Determines}
 use Rattle.token.proofs.Spelling as spelling
 use Rattle.token.proofs.Shortest as groups
-use Rattle.token.proofs.Shortest.{Bytes}
 use Rattle.token.proofs.Deltas as deltas
-use Rattle.token.proofs.Deltas.{Used, PairUsed}
-use Rattle.token.proofs.Spelling.{DecimalUsed}
 use Rattle.token.proofs.Refusals as refusals
-use Rattle.token.proofs.Refusals.{NamesPlace, RefusedDelta, Everyone}
 use Rattle.token.proofs.number.Kinds as number-kinds
 use Rattle.token.proofs.number.Reads as number-contract
 use Rattle.token.proofs.uint.Kinds as uint-kinds
@@ -35,6 +31,7 @@ use Rattle.token.proofs.symbol_index.Kinds as symbol-index-kinds
 use Rattle.token.proofs.symbol_index.Reads as symbol-index-contract
 use Rattle.token.proofs.pair.Kinds as pair-kinds
 use Rattle.token.proofs.pair.Reads as pair-contract
+use Rattle.token.specs.Claims.{Bytes, Used, PairUsed, DecimalUsed, NamesPlace, RefusedDelta, Everyone}
 
 -- 1. Each contract determines its answer: of any two answers that it allows for the same bytes, place and numbers, each is the other.
 

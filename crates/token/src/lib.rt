@@ -1,4 +1,4 @@
-// AIGER's number tokens, over lent bytes and a place in them: decimal numbers, numbers in groups of seven bits, deltas, and a gate's pair of
+// AIGER's number tokens, on lent bytes and a place in them: decimal numbers, numbers in groups of seven bits, deltas, and a gate's pair of
 // deltas. A place past the end reads as the end. A refusal consumes nothing and names the place given; in a pair, the first byte of the delta
 // that caused it.
 ghost use mathlib.Core.Path.{_≡_};

@@ -44,10 +44,10 @@ use Rattle.token_reader.proofs.TokenReader.Laws as T′
 use Rattle.token_reader.proofs.Parts.{ReaderAt, declared, laws, slice, ReaderOwn}
 
 -- of a type that is seen at exit as it was passed, nothing is bound there and nothing is said
-last-is : {D : Type 0} (e : Exit D) → e ≡ unchanged → (x : D) → Last e x
+pub last-is : {D : Type 0} (e : Exit D) → e ≡ unchanged → (x : D) → Last e x
 last-is e still x = subst (λ (f : Exit _). Last f x) (sym still) tt
 
-left-is : {D : Type 0} (e : Exit D) → e ≡ unchanged → (x : D) (f : Last e x) → left e x f ≡ ftrue
+pub left-is : {D : Type 0} (e : Exit D) → e ≡ unchanged → (x : D) (f : Last e x) → left e x f ≡ ftrue
 left-is e still = subst (λ (f : Exit _). (x : _) (l : Last f x) → left f x l ≡ ftrue) (sym still) (λ x l. refl)
 
 -- the answer's type and its laws, and the name and the answer of the function that gives the place

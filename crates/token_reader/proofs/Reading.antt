@@ -182,7 +182,7 @@ given i = copy (place i [])
 -- 2. Nothing beside the reader.
 
 module _ (E : Declared) (L : EL.Laws E) (few : Few (shape E)) (token : Name) (answer : List ℕ → ℕ → E .D) where
-  abbrev bare : Form
+  abbrev pub bare : Form
   bare = record { slots = []; kept = tt; stays = tt; E = E; answer = λ κs s at xs. answer s at }
 
   abbrev bare-function : Fn
@@ -227,7 +227,7 @@ module _ (E : Declared) (L : EL.Laws E) (few : Few (shape E)) (token : Name) (an
 -- 3. A number beside the reader.
 
 module _ (E : Declared) (L : EL.Laws E) (few : Few (shape E)) (token : Name) (answer : List ℕ → ℕ → ℕ → E .D) where
-  abbrev numbered : Form
+  abbrev pub numbered : Form
   numbered =
       record {
         slots = plain (λ κs. u64) ∷ [];
@@ -294,7 +294,7 @@ module _ (E : Declared) (L : EL.Laws E) (few : Few (shape E)) (token : Name) (an
 -- 4. A number and a flag beside the reader.
 
 module _ (E : Declared) (L : EL.Laws E) (few : Few (shape E)) (token : Name) (answer : List ℕ → ℕ → ℕ → Bool → E .D) where
-  abbrev flagged : Form
+  abbrev pub flagged : Form
   flagged = record {
     slots = plain (λ κs. u64) ∷ plain (λ κs. bool) ∷ [];
     kept = (yes, (yes, tt));

@@ -85,7 +85,7 @@ returns-2 c =
     lentOf (a .circuit) (now (a .inputs)) (now (a .states)) (now (a .nexts)) (take (a .checked .laid * 3) (now (a .flat))) (now (a .roots))
     (now (a .map)) (now (a .next-images)) (now (a .root-images)) (now (a .gates-out)) (now (a .scratch)) in
     finish-passed lent (now (a .flat)) (a .checked .laid * 3) (sym (front-length _ (now (a .flat)) (entry .pre)))
-    (a .checked .check) (enumToldAt .enum-told .given .1) _
+    (entry .pre) (a .checked .check) (enumToldAt .enum-told .given .1) _
     (renumberAt .renumber .ensures) _ (fillAt .fill .ensures)
 
 pub finish-spec : {M : Type 1} → statement M

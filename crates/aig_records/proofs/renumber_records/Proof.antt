@@ -54,7 +54,7 @@ use Rattle.circuit.proofs.CircuitRecord as Cr
 use Rattle.circuit.proofs.CircuitRecord.Laws as Cr′
 use Rattle.lit.proofs.Var as T
 use Rattle.lit.proofs.Var.Laws as T′
-use Rattle.aig_records.specs.Records.{laidOver}
+use Rattle.aig_records.specs.Records.{laidOnto}
 use Rattle.aig_records.specs.Checks.{overIn, checkedOf}
 use Rattle.aig_records.specs.Outcome.{withFlat, finished}
 use Rattle.aig_records.specs.declared.GateRecord.{GateRecord}
@@ -263,7 +263,7 @@ module _ {M : Type 1} (𝓤 : URA M) (H : Heap 𝓤) (A : Atoms 𝓤) (W : Given
   checked = checkedOf circuit (inputs .now) (states .now) (nexts .now) (roots .now) (length (gates .now)) found rooms
 
   abbrev laid-flat : List ℕ
-  laid-flat = laidOver (checked .laid) (gates .now) ys
+  laid-flat = laidOnto (checked .laid) (gates .now) ys
 
   laid-few : checked .laid ≤ length (gates .now)
   laid-few = few-laid circuit (inputs .now) (states .now) (nexts .now) (roots .now) (length (gates .now)) found rooms

@@ -4,7 +4,7 @@ use Rattle.checks.proofs.over.Tie as tie
 use denote.Ref.{now}
 use Prim.Native.Nat.{ℕ, _+_, _*_}
 use mathlib.Core.Path.{ap, _∙_}
-use Rattle.checks.specs.Lending.{bare}
+use Rattle.checks.specs.Bare.{bare}
 use Rattle.checks.proofs.Sizes.{fits-twice, fits-bound}
 use Rattle.checks.proofs.Offenders.{in-inputs, in-gates, in-latches, in-roots}
 

@@ -30,7 +30,7 @@ returns c =
     let fillFrontAt = c .before .before in
     let images2At = fillFrontAt .before .before .before .before in
     let imagesAt = images2At .before .before .before .before in
-    record { nextsOver = imagesAt .images .ensures; rootsOver = images2At .images2 .ensures; clear = fillFrontAt .fill-front .ensures }
+    record { nextsOnto = imagesAt .images .ensures; rootsOnto = images2At .images2 .ensures; clear = fillFrontAt .fill-front .ensures }
 
 pub finish-spec : {M : Type 1} → statement M
 finish-spec =

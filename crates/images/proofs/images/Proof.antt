@@ -7,7 +7,7 @@ use mathlib.Core.Path.{_≡_, refl, _∙_}
 use mathlib.Core.List.{_++_}
 use lib.ListN.{length, take, drop, length-set}
 use Rattle.circuit.specs.Ordered.{imagesIn}
-use Rattle.lent.proofs.Rows.{over-all, over-full}
+use Rattle.lent.proofs.Rows.{onto-all, onto-full}
 use Rattle.lent.proofs.Entries.{images-length, images-more}
 
 abbrev Inv-loop : tie.InvT-loop
@@ -29,7 +29,7 @@ returns c =
     let entry = loopAt .before .before .before .before in
     let a = entry .args in
     let v = loopAt .loop .inv in
-    v .3 ∙ over-full (imagesIn _ _) _ _ (omega (arith, v .0, images-length (a .map .now) (a .literals .now))) (v .1)
+    v .3 ∙ onto-full (imagesIn _ _) _ _ (omega (arith, v .0, images-length (a .map .now) (a .literals .now))) (v .1)
     (omega (arith, v .2, c .if1 .taken))
 
 mul-from-code : tie.Need-mul-from-code Inv-loop μ-loop
@@ -92,7 +92,7 @@ returns-2 c =
     let entry = c .before .before .before .before .before in
     let a = entry .args in
     let v = c .before .loop .inv in
-    v .3 ∙ over-all (imagesIn _ _) _ _ (omega (arith, v .0, images-length (a .map .now) (a .literals .now)))
+    v .3 ∙ onto-all (imagesIn _ _) _ _ (omega (arith, v .0, images-length (a .map .now) (a .literals .now)))
     (omega (arith, c .loop-test .left, images-length (a .map .now) (a .literals .now))) (v .1)
 
 pub images-spec : {M : Type 1} → statement M

@@ -2,6 +2,8 @@
 -- after it. Assumes nothing.
 use mathlib.Core.Path.{refl, sym}
 use denote.Ref.{now}
+use Prim.Native.Nat.{ℕ}
+use lib.ListN.{replicate}
 use Rattle.sheet_read.proofs.Sheets.{sheet-got}
 use Rattle.sheet.proofs.Reports.{report-put, whole-text, faulty-text}
 use borrow.Author.Needs.{needs}
@@ -24,7 +26,7 @@ slice-aggregate-report-codes c =
     let entry = allCodesAt .before .before .before in
     let readHeader = readAt .read .last .1 .0 in
     let readCodes = readAt .read .last .1 .1 .0 in
-    sym ((sheet-got (now (entry .args .sheet)) _ (readHeader) (allCodesAt .all-codes .result) (readCodes) (readAt .read .result) refl
+    sym ((sheet-got (now (entry .args .sheet)) (replicate {A = ℕ} 10 0) (readHeader) (allCodesAt .all-codes .result) (readCodes) (readAt .read .result) refl
     (sym (allCodesAt .all-codes .ensures)) (readAt .read .ensures) (c .before .enum-told .given .1)) .taken .ten)
 
 slice-aggregate-report-codes-2 : tie.Need-slice-aggregate-report-codes-2
@@ -35,7 +37,7 @@ slice-aggregate-report-codes-2 c =
     let entry = allCodesAt .before .before .before in
     let readHeader = readAt .read .last .1 .0 in
     let readCodes = readAt .read .last .1 .1 .0 in
-    sym ((sheet-got (now (entry .args .sheet)) _ (readHeader) (allCodesAt .all-codes .result) (readCodes) (readAt .read .result) refl
+    sym ((sheet-got (now (entry .args .sheet)) (replicate {A = ℕ} 10 0) (readHeader) (allCodesAt .all-codes .result) (readCodes) (readAt .read .result) refl
     (sym (allCodesAt .all-codes .ensures)) (readAt .read .ensures) (enumToldAt .enum-told .given .1)) .room)
 
 report-codes-requires : tie.Need-report-codes-requires
@@ -47,9 +49,9 @@ report-codes-requires c κs =
     let readHeader = readAt .read .last .1 .0 in
     let readCodes = readAt .read .last .1 .1 .0 in
     let a = entry .args in (
-      (sheet-got (now (a .sheet)) _ (readHeader) (allCodesAt .all-codes .result) (readCodes) (readAt .read .result) refl
+      (sheet-got (now (a .sheet)) (replicate {A = ℕ} 10 0) (readHeader) (allCodesAt .all-codes .result) (readCodes) (readAt .read .result) refl
           (sym (allCodesAt .all-codes .ensures)) (readAt .read .ensures) (enumToldAt .enum-told .given .1)) .taken,
-      (sheet-got (now (a .sheet)) _ (readHeader) (allCodesAt .all-codes .result) (readCodes) (readAt .read .result) refl
+      (sheet-got (now (a .sheet)) (replicate {A = ℕ} 10 0) (readHeader) (allCodesAt .all-codes .result) (readCodes) (readAt .read .result) refl
           (sym (allCodesAt .all-codes .ensures)) (readAt .read .ensures) (enumToldAt .enum-told .given .1)) .room,
     )
 
@@ -77,7 +79,7 @@ returns c =
     let a = entry .args in
     report-put (now (a .sheet)) (reportCodesAt .report-codes .ensures)
     (whole-text (now (a .sheet)) _ _ (readAt .read .result)
-    (sheet-got (now (a .sheet)) _ (readHeader) (allCodesAt .all-codes .result) (readCodes) (readAt .read .result) refl
+    (sheet-got (now (a .sheet)) (replicate {A = ℕ} 10 0) (readHeader) (allCodesAt .all-codes .result) (readCodes) (readAt .read .result) refl
     (sym (allCodesAt .all-codes .ensures)) (readAt .read .ensures) (enumToldAt .enum-told .given .1)) (readAt .read .ensures .0)
     (enumToldAt .enum-told .given .1))
 

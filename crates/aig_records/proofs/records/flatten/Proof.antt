@@ -52,7 +52,7 @@ use denote.Triple.Statement.{Contract, Triple}
 use denote.Triple.Table.{entered, cited}
 use denote.Triple.Walked.{says, needs, Stays, stay-none, stay-slice, stay-none-slice, walkOf, goes-none, goes-slice, goes-none-slice, Walks, ends-at, walked, walk-meets}
 use denote.Exit.{yes as kept}
-use Rattle.aig_records.specs.Records.{noGate, codesOf, laidOver}
+use Rattle.aig_records.specs.Records.{noGate, codesOf, laidOnto}
 use Rattle.aig_records.specs.declared.GateRecord.{GateRecord}
 use Rattle.aig_records.specs.declared.records.Codes.{Codes}
 use Rattle.aig_records.proofs.Flat.{laid-length, laid-more}
@@ -127,7 +127,7 @@ module _ {M : Type 1} (𝓤 : URA M) (H : Heap 𝓤) (A : Atoms 𝓤) (W : Given
 
   -- what is laid when all are
   abbrev zs : List ℕ
-  zs = laidOver n ys xs
+  zs = laidOnto n ys xs
 
   zs-length : length zs ≡ length xs
   zs-length = laid-length ys xs n fitted few
@@ -182,7 +182,7 @@ module _ {M : Type 1} (𝓤 : URA M) (H : Heap 𝓤) (A : Atoms 𝓤) (W : Given
       -- where the codes of i records are laid: the records' share, the words, _4 and _5, room for the other locals, and what no turn touches
       abbrev At : Upto → List (Item 𝓤)
       At u =
-          ‵ (row R q′ ys b o) ∷ ‵ (row u32 fullShare (laidOver (u .0) ys xs) b₂ o₂) ∷ ‵ (fat fullShare word l₄ 0 (vint w64 (u .0))) ∷ ‵
+          ‵ (row R q′ ys b o) ∷ ‵ (row u32 fullShare (laidOnto (u .0) ys xs) b₂ o₂) ∷ ‵ (fat fullShare word l₄ 0 (vint w64 (u .0))) ∷ ‵
           (fat fullShare word l₅ 0 (vint w64 (u .0 * 3)))
           ∷ ‵ (froom G′.mir l₆ 0) ∷ ‵ (froom K′.mir l₇ 0) ∷ ‵ (froom tyBool l₈ 0) ∷ ‵ (froom word l₉ 0) ∷ ‵ (froom tyPtr l₁₀ 0) ∷ ‵
           (froom G′.mir l₁₁ 0) ∷ ‵ (froom tyPtr l₁₂ 0) ∷ ‵ (froom word l₁₃ 0) ∷ ‵ (froom tyPtr l₁₄ 0) ∷ ‵ (froom tyPtr l₁₅ 0)
@@ -209,10 +209,10 @@ module _ {M : Type 1} (𝓤 : URA M) (H : Heap 𝓤) (A : Atoms 𝓤) (W : Given
           let small : i * 12 < 2 ^ 63 = omega (arith, p .0 .1 .1) in
           let words : i * 3 * 4 + 12 ≤ 2 ^ 63 = omega (arith, room .1) in
           let so-far : i * 3 ≤ length xs = omega arith in
-          let laid-is : length (laidOver i ys xs) ≡ length xs = laid-length ys xs i so-far (omega arith) in
-          let in₀ : i * 3 < length (laidOver i ys xs) = omega arith in
-          let in₁ : i * 3 + 1 < length (set (laidOver i ys xs) (i * 3) (e .output .0)) = simp length-set (omega arith) in
-          let in₂ : i * 3 + 2 < length (set (set (laidOver i ys xs) (i * 3) (e .output .0)) (i * 3 + 1) (e .first .0)) = simp length-set (omega arith) in
+          let laid-is : length (laidOnto i ys xs) ≡ length xs = laid-length ys xs i so-far (omega arith) in
+          let in₀ : i * 3 < length (laidOnto i ys xs) = omega arith in
+          let in₁ : i * 3 + 1 < length (set (laidOnto i ys xs) (i * 3) (e .output .0)) = simp length-set (omega arith) in
+          let in₂ : i * 3 + 2 < length (set (set (laidOnto i ys xs) (i * 3) (e .output .0)) (i * 3 + 1) (e .first .0)) = simp length-set (omega arith) in
           -- the record at i
           assigns ! (bin ! (load ! (from ! (stop !)) (look ! 2 refl)) (lit ! tt) (record { fits = omega arith })) (from ! (stop !))
           (init ! 7 refl (tt, record { fits = omega arith })) $
@@ -241,11 +241,11 @@ module _ {M : Type 1} (𝓤 : URA M) (H : Heap 𝓤) (A : Atoms 𝓤) (W : Given
           assigns ! (bin ! (load ! (from ! (fld ! refl (stop !))) (look-in ! 15 (sub ! 0 refl (whole !)))) (load ! (from ! (stop !)) (look ! 7 refl))
           tt) (from ! (stop !)) (init ! 10 refl (tt, tt)) $
           rewrite ! 10 (λ (p′ : ℕ). ‵ (fat fullShare tyPtr l₁₂ 0 (vptr b₂ p′))) (sym (place-is 4 o₂ (i * 3))) refl $ move ! (1 ∷ []) $
-          elem-out ! u32 (Is u32) (shows 𝓤 H A u32) (uint-vals w32) (uint-tells w32) fullShare (laidOver i ys xs) (i * 3) 0 b₂ o₂ in₀ (λ _.
+          elem-out ! u32 (Is u32) (shows 𝓤 H A u32) (uint-vals w32) (uint-tells w32) fullShare (laidOnto i ys xs) (i * 3) 0 b₂ o₂ in₀ (λ _.
           assigns ! (of-opd ! (load ! (from ! (fld ! refl (stop !))) (look-in ! 7 (sub ! 0 refl (whole !)))))
           (from ! (hop ! (look ! 12 refl) (stop !))) (store ! 0 refl (tt, record { fits = parts .0 .1 })) $
           move ! (1 ∷ []) $ drop ! $ owned ! u32 (Is u32) (uint-makes 𝓤 H A W w32) (e .output .0) _ (refl, parts .0 .1) $ move ! (1 ∷ 0 ∷ []) $
-          elem-put ! u32 fullShare (laidOver i ys xs) (i * 3) (e .output .0) (vint w32 (e .output .0) ∷ []) b₂ o₂ in₀ $
+          elem-put ! u32 fullShare (laidOnto i ys xs) (i * 3) (e .output .0) (vint w32 (e .output .0) ∷ []) b₂ o₂ in₀ $
           -- its first input
           assigns ! (bin ! (load ! (from ! (stop !)) (look ! 3 refl)) (lit ! tt) (record { fits = omega arith })) (from ! (stop !))
           (store ! 7 refl (tt, record { fits = omega arith })) $
@@ -254,12 +254,12 @@ module _ {M : Type 1} (𝓤 : URA M) (H : Heap 𝓤) (A : Atoms 𝓤) (W : Given
           assigns ! (bin ! (load ! (from ! (fld ! refl (stop !))) (look-in ! 15 (sub ! 0 refl (whole !)))) (load ! (from ! (stop !)) (look ! 11 refl))
           tt) (from ! (stop !)) (init ! 12 refl (tt, tt)) $
           rewrite ! 12 (λ (p′ : ℕ). ‵ (fat fullShare tyPtr l₁₄ 0 (vptr b₂ p′))) (sym (place-is 4 o₂ (i * 3 + 1))) refl $
-          elem-out ! u32 (Is u32) (shows 𝓤 H A u32) (uint-vals w32) (uint-tells w32) fullShare (set (laidOver i ys xs) (i * 3) (e .output .0))
+          elem-out ! u32 (Is u32) (shows 𝓤 H A u32) (uint-vals w32) (uint-tells w32) fullShare (set (laidOnto i ys xs) (i * 3) (e .output .0))
           (i * 3 + 1) 0 b₂ o₂ in₁ (λ _.
           assigns ! (of-opd ! (load ! (from ! (fld ! refl (stop !))) (look-in ! 7 (sub ! 1 refl (whole !)))))
           (from ! (hop ! (look ! 14 refl) (stop !))) (store ! 0 refl (tt, record { fits = parts .1 .0 .1 })) $
           move ! (1 ∷ []) $ drop ! $ owned ! u32 (Is u32) (uint-makes 𝓤 H A W w32) (e .first .0) _ (refl, parts .1 .0 .1) $ move ! (1 ∷ 0 ∷ []) $
-          elem-put ! u32 fullShare (set (laidOver i ys xs) (i * 3) (e .output .0)) (i * 3 + 1) (e .first .0) (vint w32 (e .first .0) ∷ []) b₂ o₂ in₁ $
+          elem-put ! u32 fullShare (set (laidOnto i ys xs) (i * 3) (e .output .0)) (i * 3 + 1) (e .first .0) (vint w32 (e .first .0) ∷ []) b₂ o₂ in₁ $
           -- its second input
           assigns ! (bin ! (load ! (from ! (stop !)) (look ! 3 refl)) (lit ! tt) (record { fits = omega arith })) (from ! (stop !))
           (store ! 7 refl (tt, record { fits = omega arith })) $
@@ -269,11 +269,11 @@ module _ {M : Type 1} (𝓤 : URA M) (H : Heap 𝓤) (A : Atoms 𝓤) (W : Given
           tt) (from ! (stop !)) (init ! 13 refl (tt, tt)) $
           rewrite ! 13 (λ (p′ : ℕ). ‵ (fat fullShare tyPtr l₁₅ 0 (vptr b₂ p′))) (sym (place-is 4 o₂ (i * 3 + 2))) refl $
           elem-out ! u32 (Is u32) (shows 𝓤 H A u32) (uint-vals w32) (uint-tells w32) fullShare
-          (set (set (laidOver i ys xs) (i * 3) (e .output .0)) (i * 3 + 1) (e .first .0)) (i * 3 + 2) 0 b₂ o₂ in₂ (λ _.
+          (set (set (laidOnto i ys xs) (i * 3) (e .output .0)) (i * 3 + 1) (e .first .0)) (i * 3 + 2) 0 b₂ o₂ in₂ (λ _.
           assigns ! (of-opd ! (load ! (from ! (fld ! refl (stop !))) (look-in ! 7 (sub ! 2 refl (whole !)))))
           (from ! (hop ! (look ! 15 refl) (stop !))) (store ! 0 refl (tt, record { fits = parts .1 .1 .0 .1 })) $
           move ! (1 ∷ []) $ drop ! $ owned ! u32 (Is u32) (uint-makes 𝓤 H A W w32) (e .second .0) _ (refl, parts .1 .1 .0 .1) $ move ! (1 ∷ 0 ∷ []) $
-          elem-put ! u32 fullShare (set (set (laidOver i ys xs) (i * 3) (e .output .0)) (i * 3 + 1) (e .first .0)) (i * 3 + 2) (e .second .0)
+          elem-put ! u32 fullShare (set (set (laidOnto i ys xs) (i * 3) (e .output .0)) (i * 3 + 1) (e .first .0)) (i * 3 + 2) (e .second .0)
           (vint w32 (e .second .0) ∷ []) b₂ o₂ in₂ $
           -- one record more is laid
           assigns ! (bin ! (load ! (from ! (stop !)) (look ! 2 refl)) (lit ! tt) (record { fits = omega arith })) (from ! (stop !))
@@ -292,7 +292,7 @@ module _ {M : Type 1} (𝓤 : URA M) (H : Heap 𝓤) (A : Atoms 𝓤) (W : Given
       leaves u h =
           let e : u .0 ≡ n = omega (arith, u .1) in
           exec ! (𝓣 .C) (𝓣 .Λ) En rest (atRet En Post) $ assigns ! (of-opd ! (unit-lit !)) (from ! (stop !)) (init ! 17 refl (tt, tt)) $
-          rewrite ! 1 (λ (i : ℕ). ‵ (row u32 fullShare (laidOver i ys xs) b₂ o₂)) e refl $
+          rewrite ! 1 (λ (i : ℕ). ‵ (row u32 fullShare (laidOnto i ys xs) b₂ o₂)) e refl $
           move ! (0 ∷ 18 ∷ []) $ shuts-slice ! tt R q′ ys b o $ move ! (1 ∷ 18 ∷ 19 ∷ 20 ∷ []) $ closes-slice ! tt u32 xs zs zs-length b₂ o₂ $
           -- [obs; the borrow; 'b's token; 'a's token; _4 to _15; _1; _3; _2; _0; what gates owns; and that each local dies]
           returns ! (look ! 19 refl) $ forget ! 4 refl $ forget ! 5 refl $ forget ! 8 refl $ forget ! 16 refl $ forget ! 17 refl $ forget ! 18 refl $

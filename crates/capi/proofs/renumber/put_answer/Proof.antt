@@ -1,4 +1,5 @@
 -- `renumber::put_answer` meets its contract: a success and a refusal are the two ways out, each by its law. Assumes nothing.
+use denote.Ref.{now}
 use Rattle.capi.proofs.Renumbering.{said-made, said-refused}
 use Rattle.capi.proofs.renumber.put_answer.Statement.{statement}
 use Rattle.capi.proofs.renumber.put_answer.Tie as tie
@@ -39,7 +40,8 @@ returns c =
     let putWordsAt = c .before .before in
     let indexAt = putWordsAt .before in
     let saidAt = indexAt .before .before .before .before in
-    said-made _ _ _ _ _ (saidAt .said .given .1) (indexAt .index .ensures) (putWordsAt .put-words .ensures)
+    let entry = saidAt .before .before .before in
+    said-made _ _ _ (now (entry .args .answer)) _ (saidAt .said .given .1) (indexAt .index .ensures) (putWordsAt .put-words .ensures)
 
 same-length-2 : tie.Need-same-length-2
 same-length-2 c = c .before .before .before .put-words2 .kept .0
@@ -50,7 +52,8 @@ returns-2 c =
     let codeAt = putWords2At .before in
     let literalAt = codeAt .before .before in
     let said2At = literalAt .before .before in
-    said-refused _ _ _ _ _ _ _ (said2At .said2 .given .1) (c .number .ensures) (codeAt .code .ensures) (literalAt .literal .ensures)
+    let entry = said2At .before .before .before in
+    said-refused _ _ _ _ _ (now (entry .args .answer)) _ (said2At .said2 .given .1) (c .number .ensures) (codeAt .code .ensures) (literalAt .literal .ensures)
     (putWords2At .put-words2 .ensures)
 
 pub put-answer-spec : {M : Type 1} → statement M

@@ -3,6 +3,8 @@ use mathlib.Core.List.{[], _∷_}
 use native.Mathlib.Omega.{arith}
 use lib.ListN.{length-set}
 use lib.Seq.{sets-eq}
+use mathlib.Core.Path.{sym, _∙_}
+use Rattle.circuit.proofs.Outcome.{onto-long}
 use Rattle.capi.proofs.renumber.put_words.Statement.{statement}
 use Rattle.capi.proofs.renumber.put_words.Tie as tie
 
@@ -19,7 +21,10 @@ same-length : tie.Need-same-length
 same-length c = simp length-set
 
 returns : tie.Need-returns
-returns c = let a = c .args in sets-eq (a .literal ∷ a .made ∷ a .top ∷ []) (a .words .now) 0 (c .pre)
+returns c =
+    let a = c .args in
+    let three = a .literal ∷ a .made ∷ a .top ∷ [] in
+    sets-eq three (a .words .now) 0 (c .pre) ∙ sym (onto-long three (a .words .now) (c .pre))
 
 pub put-words-spec : {M : Type 1} → statement M
 put-words-spec =

@@ -3,6 +3,7 @@ use Rattle.capi.proofs.Renumbering.{record-same}
 use borrow.Author.Needs.{needs}
 use Rattle.capi.proofs.renumber.record_of.Statement.{statement}
 use Rattle.capi.proofs.renumber.record_of.Tie as tie
+use Rattle.lit.specs.Code.{isOdd}
 
 from-index-requires : tie.Need-from-index-requires
 from-index-requires c κs = search needs
@@ -23,6 +24,7 @@ shared-slice-read-t14 : tie.Need-shared-slice-read-t14
 shared-slice-read-t14 c = search needs
 
 returns : tie.Need-returns
+unfolding isOdd
 returns c =
     let fromIndexAt = c .before .before .before .before .before in
     let entry = fromIndexAt .before .before in

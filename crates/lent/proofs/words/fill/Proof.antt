@@ -4,7 +4,7 @@ use Rattle.lent.proofs.words.fill.Tie as tie
 use mathlib.Core.Path.{_∙_}
 use denote.Ref.{now}
 use lib.ListN.{length, replicate, length-replicate}
-use Rattle.lent.proofs.Rows.{over-whole}
+use Rattle.circuit.proofs.Outcome.{onto-whole}
 
 fill-front-requires : tie.Need-fill-front-requires
 fill-front-requires c κs = tt
@@ -17,7 +17,7 @@ returns c =
     let fillFrontAt = c .before .before in
     let entry = fillFrontAt .before .before .before in
     let a = entry .args in
-    fillFrontAt .fill-front .ensures ∙ over-whole (replicate (length (now (a .words))) (a .value)) (now (a .words))
+    fillFrontAt .fill-front .ensures ∙ onto-whole (replicate (length (now (a .words))) (a .value)) (now (a .words))
     (length-replicate (length (now (a .words))) _)
 
 pub fill-spec : {M : Type 1} → statement M

@@ -6,7 +6,7 @@ use Prim.Native.Nat.{_≤_, _-_, _+_}
 use mathlib.Core.Path.{_≡_, refl, sym, ap, _∙_}
 use mathlib.Core.List.{_++_}
 use lib.ListN.{length, replicate, take, drop, set, length-set, length-replicate, getD-replicate}
-use Rattle.lent.proofs.Rows.{over-more, over-all, over-full}
+use Rattle.lent.proofs.Rows.{onto-more, onto-all, onto-full}
 
 abbrev Inv-loop : tie.InvT-loop
 Inv-loop words₀ count value i₀ words i =
@@ -27,7 +27,7 @@ returns c =
     let entry = loopAt .before in
     let a = entry .args in
     let v = loopAt .loop .inv in
-    v .3 ∙ over-full (replicate (a .count) (a .value)) _ _ (omega (arith, v .0, length-replicate (a .count) (a .value))) (v .1)
+    v .3 ∙ onto-full (replicate (a .count) (a .value)) _ _ (omega (arith, v .0, length-replicate (a .count) (a .value))) (v .1)
     (omega (arith, v .2, c .if1 .taken))
 
 mul-words : tie.Need-mul-words Inv-loop μ-loop
@@ -59,7 +59,7 @@ loop-again c =
       omega (arith, c .if1 .left, v .2),
       length-set (loopAt .loop .words) (loopAt .loop .i) (a .value) ∙ v .2,
       ap
-          (λ w. set w (loopAt .loop .i) (a .value)) (v .3) ∙ over-more (replicate (a .count) (a .value)) _ (loopAt .loop .i) (a .value)
+          (λ w. set w (loopAt .loop .i) (a .value)) (v .3) ∙ onto-more (replicate (a .count) (a .value)) _ (loopAt .loop .i) (a .value)
           (omega (arith, h, length-replicate (a .count) (a .value))) (omega (arith, c .if1 .left, v .2))
           (sym (getD-replicate (a .count) (loopAt .loop .i) (a .value) 0 h)),
     )
@@ -71,7 +71,7 @@ returns-2 : tie.Need-returns-2 Inv-loop μ-loop
 returns-2 c =
     let a = c .before .before .args in
     let v = c .before .loop .inv in
-    v .3 ∙ over-all (replicate (a .count) (a .value)) _ _ (omega (arith, v .0, length-replicate (a .count) (a .value)))
+    v .3 ∙ onto-all (replicate (a .count) (a .value)) _ _ (omega (arith, v .0, length-replicate (a .count) (a .value)))
     (omega (arith, c .loop-test .left, length-replicate (a .count) (a .value))) (v .1)
 
 pub fill-front-spec : {M : Type 1} → statement M

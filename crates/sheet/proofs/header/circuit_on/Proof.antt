@@ -3,7 +3,7 @@ use native.Mathlib.Omega.{arith}
 use mathlib.Core.Path.{ap, _∙_}
 use Rattle.sheet_read.proofs.Headers.{taken-at}
 use Rattle.sheet.proofs.Circuits.{record-same}
-use Rattle.lit.specs.Code.{variable}
+use Rattle.lit.specs.Code.{isOdd, variable}
 use denote.Ref.{now}
 use borrow.Author.Needs.{needs}
 use Rattle.sheet.proofs.header.circuit_on.Statement.{statement}
@@ -62,6 +62,7 @@ word-requires-6 c κs =
     omega (arith, taken-at (entry .pre) 8 (omega arith))
 
 returns : tie.Need-returns
+unfolding isOdd
 returns c =
     let word5At = c .before .before in
     let word4At = word5At .before .before in
