@@ -20,7 +20,7 @@ use Rattle.lines.specs.Reading.{Read, got, no, _▸_, rowAt}
 use Rattle.lines.specs.Lines.{isByte, byteAt, spaceAt, newlineAt, begins, tagOf, tagAt, numberOf, numberAt, lineAt, linesAt, resetAt, latchAt, latchesAt}
 use Rattle.lines.specs.Sections.{countAt, optionsAt, headerOf, othersAt, countsAt, headerAt, topCode}
 use Rattle.lines.specs.Sections.{Roots, rootsOf, firstRoots, rootCount, rootRoomAt, propertiesAt, sizesAt, rootsAt}
-use Rattle.lines.specs.Promise.{ended, reading, firstLine, stored, Left, seen, rootsLeft, Stores, StoresSizes, StoresRoots, Counted}
+use Rattle.lines.specs.Promise.{ended, reading, firstLine, stored, Left, seen, rootsLeft, Stores, StoresSizes, StoresRoots}
 
 -- 1. Reading forward.
 
@@ -305,7 +305,7 @@ pub answers-pinned :
 answers-pinned = (refl, refl, refl, refl, refl, refl, refl, refl, refl, refl, refl, refl, refl)
 
 -- what is read stands in the list from a cell on; of a refusal only the answer is told; the sum of the sizes up to one more than the limit
-pub stores-pinned : (e : Ended) (r : Reading) (n : ℕ) (list : List ℕ) (after : Roots)
+pub stores-pinned : (e : Ended) (r : Reading) (list : List ℕ) (after : Roots)
     → (_≡_ {A = Type 0} (Stores (got (5 ∷ 6 ∷ []) 7) e 1 (9 ∷ 8 ∷ 7 ∷ 6 ∷ []) list) ((e ≡ After 7) × (list ≡ (9 ∷ 5 ∷ 6 ∷ 6 ∷ []))))
     × (_≡_ {A = Type 0} (Stores (no Above 7) e 1 (9 ∷ 8 ∷ 7 ∷ 6 ∷ []) list) (e ≡ Broken Above 7))
     × (_≡_ {A = Type 0} (StoresSizes (got (5 ∷ 6 ∷ []) 7) r (9 ∷ 8 ∷ 7 ∷ []) list) ((r ≡ Is 11 7) × (list ≡ (5 ∷ 6 ∷ 7 ∷ []))))
@@ -314,5 +314,4 @@ pub stores-pinned : (e : Ended) (r : Reading) (n : ℕ) (list : List ℕ) (after
     × (_≡_ {A = Type 0} (StoresRoots (got (rootsOf (4 ∷ 3 ∷ []) (5 ∷ [])) 9) r 1 (rootsOf (11 ∷ 12 ∷ 13 ∷ []) (14 ∷ 15 ∷ 16 ∷
     [])) after) ((r ≡ Is 7 9) × (after .sizes ≡ (4 ∷ 3 ∷ 13 ∷ [])) × (after .roots ≡ (14 ∷ 5 ∷ 16 ∷ []))))
     × (_≡_ {A = Type 0} (StoresRoots (no Above 9) r 1 (rootsOf (11 ∷ 12 ∷ 13 ∷ []) (14 ∷ 15 ∷ 16 ∷ [])) after) (r ≡ Not Above 9))
-    × (_≡_ {A = Type 0} (Counted 5 n) ((n ≡ 5) × (n < 4294967296)))
-stores-pinned e r n list after = (refl, refl, refl, refl, refl, refl, refl, refl)
+stores-pinned e r list after = (refl, refl, refl, refl, refl, refl, refl)
