@@ -13,7 +13,7 @@ use Rattle.circuit.specs.Claims.{AllWithin, SameValue}
 abbrev pub variablesOf : Ordered → ℕ
 variablesOf O = sourcesOf O + length (O .gates)
 
--- over n sources: each gate's larger input is at most the gate's code, and the smaller not above it
+-- where there are n sources: each gate's larger input is at most the gate's code, and the smaller not above it
 abbrev pub Falling : ℕ → List Pair → Type 0
 Falling n gates =
     (j : ℕ) → j < length gates → (getD gates j noPair .smaller ≤ getD gates j noPair .larger) × (getD gates j noPair .larger ≤ firstCode n + 2 * j)
