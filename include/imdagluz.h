@@ -2,7 +2,7 @@
  * memset and nothing else.
  *
  * Each function is proved to keep the promises written here, on every input that meets these two duties of the caller:
- *   - a pointer and the length after it name that many elements, bytes or words of 32 bits, which nothing else writes during the call; the
+ *   - a pointer and the length after it name that many elements, bytes or words of 32 or 64 bits, which nothing else writes during the call; the
  *     pointer is aligned as its type asks and is not NULL, and the elements take at most PTRDIFF_MAX bytes;
  *   - elements that a function may write overlap no others lent to the same call. Those that are only read may overlap each other.
  * The pointer is not NULL even where the length is 0: the compiled code may count on it. For an empty list pass any other pointer, such as an array of one
@@ -17,16 +17,20 @@
 #include <stdint.h>
 
 /* The version of this header and of the archive that belongs to it. */
-#define IMDAGLUZ_VERSION "0.1.0"
+#define IMDAGLUZ_VERSION "0.1.1"
 #define IMDAGLUZ_VERSION_MAJOR 0
 #define IMDAGLUZ_VERSION_MINOR 1
-#define IMDAGLUZ_VERSION_PATCH 0
+#define IMDAGLUZ_VERSION_PATCH 1
 
 #ifdef __cplusplus
 extern "C" {
 #endif
 
-/* Refusal numbers. 0 is success. imdagluz_delta gives 3 and 15 to 17, imdagluz_renumber 1 to 8. */
+/* The largest V, I, L, G and R, and so the most words that a list of codes has: lists of this length, gates of pairs twice it, hold every circuit. */
+#define IMDAGLUZ_LIST 1048575
+
+/* Refusal numbers. 0 is success. imdagluz_delta gives 3 and 15 to 17, imdagluz_renumber 1 to 8, imdagluz_read_aig 1, 3, 10 to 12 and 15 to 19,
+ * imdagluz_expand 1 to 3. No function here gives 13 or 14, which are for a literal that a text file assigns. */
 enum {
     IMDAGLUZ_TOO_BIG = 1,         /* V, I, L, G or R is over 1,048,575 */
     IMDAGLUZ_MISSHAPEN = 2,       /* counts, flags and lengths do not fit together */
@@ -37,9 +41,14 @@ enum {
     IMDAGLUZ_UNDEFINED = 7,       /* a literal that is reached is not defined */
     IMDAGLUZ_CYCLE = 8,           /* a gate that is reached needs itself */
     IMDAGLUZ_TOO_DEEP = 9,        /* no room on the walk's stack; proved never to be given */
+    IMDAGLUZ_NO_NUMBER = 10,      /* no digit stands where a number begins */
+    IMDAGLUZ_LEADING_ZERO = 11,   /* a number of two or more digits begins with 0 */
+    IMDAGLUZ_NUMBER_OVER = 12,    /* a number is over its limit */
     IMDAGLUZ_DELTA_CUT = 15,      /* the delta is cut by the end of the bytes */
     IMDAGLUZ_DELTA_TOO_LONG = 16, /* the delta's eighth byte has its top bit set */
-    IMDAGLUZ_DELTA_OVER = 17      /* the delta is over its reference */
+    IMDAGLUZ_DELTA_OVER = 17,     /* the delta is over its reference */
+    IMDAGLUZ_MISSING = 18,        /* the tag, a space or a newline is missing */
+    IMDAGLUZ_UNDEFINED_TOP = 19   /* M is above I+L+A: a variable that the header counts has no definition */
 };
 
 /* Reads one delta of a binary AIGER file: groups of seven bits, the lowest first, one to a byte, the top bit set on all but the last;
@@ -146,6 +155,88 @@ uint32_t imdagluz_renumber(uint32_t top, const uint32_t *counts, size_t counts_l
                            uint32_t *gates_out, size_t gates_out_length,
                            uint32_t *scratch, size_t scratch_length,
                            uint32_t *answer, size_t answer_length);
+
+/* Reads a binary AIGER file: a header M I L O A with the optional counts B C J F of AIGER 1.9, latch lines, the root lines in the file's order (outputs,
+ * bad states, constraints, justice sizes, justice literals, fairness), then A gates of two deltas each. A latch's reset field is read as a literal and
+ * dropped. Nothing after the last gate is looked at: the symbols, if there are any, begin at the byte that answer[0] says.
+ *
+ * The bytes are only read:
+ *   bytes, length          the file, or any bytes
+ * Written; a list may be longer than is asked here:
+ *   nexts, nexts_length    L words
+ *   gates, gates_length    2A words
+ *   sizes, sizes_length    J words
+ *   roots, roots_length    R words
+ *   answer, answer_length  11 words of 64 bits
+ * Lists of IMDAGLUZ_LIST words, for gates twice that, are long enough for every file: with such lists refusal 3 is not given, so that nobody has to measure a
+ * file before it is read.
+ *
+ * Answers 0 on success. Then the lists hold an ordered circuit, whose inputs have the codes 2, 4, .., 2I, whose latch states go on from there, and whose
+ * gate k, counted from 0, has the code 2(I+L+1+k):
+ *   answer  0: how many bytes the file took, to the last gate, at most length. 1: M, which is I+L+A. 2: I. 3: L. 4: A. 5 to 9: how many roots are
+ *           outputs, bad states, constraints, fairness and justice literals, in this order; they add up to R, at most 1,048,575. 10: J, the number of
+ *           justice sets
+ *   nexts   the next states of the latches, in their order
+ *   gates   of each gate the larger and then the smaller input: its code less the first delta, and that less the second. A first delta of 0 is taken, and
+ *           gives a gate that needs itself: imdagluz_renumber refuses that with 8 where it walks the gate
+ *   sizes   how many literals each justice set has; they add up to answer[9]
+ *   roots   outputs, bad states, constraints, fairness, justice, in this order, which is that of imdagluz_renumber: the file has justice before fairness.
+ * Words past those named stay as they were. imdagluz_expand makes the lists that imdagluz_renumber takes.
+ *
+ * Or answers a refusal: the first thing wrong on the way through the file, with its place in answer[0] and 0 in answer[1] to answer[10]. A place is a
+ * count of bytes from the first, at most length. Before anything is read:
+ *   3   answer_length is below 11; this one writes nothing at all, to no list
+ * In the header:
+ *   18  the file does not begin with the three bytes aig: place 0
+ *   18  no space stands before one of the first five counts, neither a space nor a newline after A, B, C or J, or no newline after F: that byte. A carriage
+ *       return is no newline
+ *   10, 11, 12  of a count, at its first byte: no digit stands there; it has two or more digits and begins with 0; it is over its limit, which is
+ *       1,048,575 for M, O, B, C, J and F, M for I, M-I for L, M-I-L for A
+ * At the byte after the header's newline:
+ *   19  M is above I+L+A
+ *   3   nexts is shorter than L, gates than 2A, or sizes than J
+ * In the lines that follow, as they come:
+ *   10, 11, 12  of a literal or a reset, whose limit is 2M+1, or of a justice size, whose limit is 1,048,575, at its first byte
+ *   18  no newline ends the line, or after a latch's next state neither a space nor a newline stands: that byte
+ * At the byte after the last justice size (where J is 0: after the last constraint):
+ *   1   R is over 1,048,575, the sizes included
+ *   3   roots is shorter than R
+ * In the gates:
+ *   15, 16, 17  of a delta, as imdagluz_delta has them, at its first byte.
+ * A refusal, but for that of a short answer list, leaves every word of nexts, gates, sizes and roots 0, however long the list: 3 for a short list too.
+ *
+ * Time: in proportion to the bytes that are read; a refusal's in proportion to the lists too, which it clears. */
+uint32_t imdagluz_read_aig(const uint8_t *bytes, size_t length,
+                           uint32_t *nexts, size_t nexts_length,
+                           uint32_t *gates, size_t gates_length,
+                           uint32_t *sizes, size_t sizes_length,
+                           uint32_t *roots, size_t roots_length,
+                           uint64_t *answer, size_t answer_length);
+
+/* Makes of an ordered circuit, as imdagluz_read_aig leaves it, the lists of inputs, latch states and gates that imdagluz_renumber takes.
+ *
+ * Only read:
+ *   inputs, latches                  I and L
+ *   gates, gates_length              2G codes, of each gate its two inputs. They are copied as they are: a code over 2V+1 is imdagluz_renumber's refusal 4
+ * Written; a list may be longer than is asked here, and the words past those asked are never written:
+ *   input_codes, input_codes_length  I words
+ *   state_codes, state_codes_length  L words
+ *   triples, triples_length          3G words
+ *
+ * Answers 0 on success. Then the lists hold
+ *   input_codes  2, 4, .., 2I
+ *   state_codes  2(I+1), 2(I+2), .., 2(I+L)
+ *   triples      of gate k, counted from 0, its output 2(I+L+1+k) and its two inputs in their order.
+ * With I+L+G for the largest variable, and next states, root counts and roots as imdagluz_read_aig gave them, they are a circuit for imdagluz_renumber.
+ *
+ * Or answers a refusal, the first of these that applies, and writes nothing:
+ *   1  I, L, G or I+L+G is over 1,048,575, G being gates_length/2 rounded down
+ *   2  gates_length is odd
+ *   3  input_codes is shorter than I, state_codes than L, or triples than 3G. */
+uint32_t imdagluz_expand(uint32_t inputs, uint32_t latches, const uint32_t *gates, size_t gates_length,
+                         uint32_t *input_codes, size_t input_codes_length,
+                         uint32_t *state_codes, size_t state_codes_length,
+                         uint32_t *triples, size_t triples_length);
 
 #ifdef __cplusplus
 }

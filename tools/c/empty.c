@@ -37,6 +37,15 @@ int main(void) {
     }
     good &= imdagluz_delta(byte, 0, 0, 6, nine, 9) == 15 && imdagluz_delta(byte, 1, 0, 9, byte, 0) == 3 && byte[0] == HELD && nine[0] == HELD;
     good &= imdagluz_delta(null_bytes, 0, 0, 6, nine, 9) == 15 && imdagluz_delta(byte, 1, 0, 9, null_bytes, 0) == 3 && nine[0] == HELD;
+    static const uint8_t empty_circuit[] = "aig 0 0 0 0 0\n";
+    for (int null = 0; null < 2; null++) {
+        uint32_t one[1] = {HELD}, *at = null ? null_words : one;
+        uint64_t words[11], word[1] = {HELD};
+        good &= imdagluz_read_aig(empty_circuit, 14, at, 0, at, 0, at, 0, at, 0, words, 11) == 0 && words[0] == 14 && one[0] == HELD;
+        good &= imdagluz_read_aig(null ? null_bytes : byte, 0, at, 0, at, 0, at, 0, at, 0, words, 11) == 18 && words[0] == 0;
+        good &= imdagluz_read_aig(empty_circuit, 14, at, 0, at, 0, at, 0, at, 0, null ? (uint64_t *)NULL : word, 0) == 3 && word[0] == HELD && one[0] == HELD;
+        good &= imdagluz_expand(0, 0, at, 0, at, 0, at, 0, at, 0) == 0 && imdagluz_expand(1, 0, at, 0, at, 0, at, 0, at, 0) == 3 && one[0] == HELD;
+    }
     char version[40];
     snprintf(version, sizeof version, "%d.%d.%d", IMDAGLUZ_VERSION_MAJOR, IMDAGLUZ_VERSION_MINOR, IMDAGLUZ_VERSION_PATCH);
     good &= strcmp(version, IMDAGLUZ_VERSION) == 0;

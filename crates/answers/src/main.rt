@@ -1,6 +1,7 @@
 // Replays questions whose answers the original gave: reads them from standard input, a line each, and answers each in the same words. The
 // files `stdin` and `stdout` beside `src` are the questions and the original's answers; docs/RECORDED.md says how they were made.
 mod fields;
+mod files;
 mod say;
 mod sheets;
 mod tokens;
@@ -33,9 +34,11 @@ fn lines(s: &[u8]) {
     }
 }
 
-// The second letter tells a sheet from the tokens.
+// The first letter tells a file, and the second a sheet, from the tokens.
 fn answer(line: &[u8]) {
-    if fields::byte(line, 1) == b'h' {
+    if fields::byte(line, 0) == b'f' {
+        files::answer(line);
+    } else if fields::byte(line, 1) == b'h' {
         sheets::answer(line);
     } else {
         tokens::answer(line);

@@ -1,4 +1,4 @@
-// Answers on standard output: `V value used`, `P first second used`, `R number place`; and any text.
+// Answers on standard output: `V value used`, `P first second used`, `R number place`, `F number words`, with a file's lists; and any text.
 use libc::STDOUT_FILENO;
 use token::PairToken;
 use token::Reason;
@@ -38,10 +38,43 @@ fn refused(why: Reason, place: usize) {
     last(place as u64);
 }
 
+// A file's number and words.
+pub fn file(n: u32, words: &[u64]) {
+    text(b"F ");
+    number(n as u64);
+    let mut i = 0;
+    while i < words.len() {
+        after(words[i]);
+        i += 1;
+    }
+}
+
+// A list's words up to the first that is no literal.
+pub fn front(list: &[u32]) {
+    let mut i = 0;
+    while i < list.len() {
+        let w = list[i];
+        if w == 4294967295 {
+            return;
+        }
+        word(w);
+        i += 1;
+    }
+}
+
+fn word(w: u32) {
+    after(w as u64);
+}
+
 fn last(n: u64) {
+    after(n);
+    text(b"\n");
+}
+
+// A space and a number.
+fn after(n: u64) {
     text(b" ");
     number(n);
-    text(b"\n");
 }
 
 fn number(n: u64) {

@@ -1,3 +1,5 @@
 pub mod Renumbering
+pub mod Expanding
 pub mod Pins
+pub mod ExpandPins
 pub mod Theorems

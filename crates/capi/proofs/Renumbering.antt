@@ -19,6 +19,7 @@ use Rattle.circuit.specs.declared.Answer.the-variants.{Renumbered, Refused}
 use Rattle.circuit.specs.Refusals.{refusalNumber, refusalLiteral}
 use Rattle.circuit.specs.Outcome.{Lent, Outcome, onto, untouched, outcome}
 use Rattle.circuit.proofs.Tests.{Same, same, other, sameTest}
+use Rattle.file_words.proofs.Words.{five}
 use Rattle.capi.specs.Renumber.{seenOf, recordOf, misgiven, firstNumber, firstWords, answerNumber, answerWords, asSeen, renumberSeen}
 
 -- how the test of counts and flags comes out
@@ -38,16 +39,6 @@ module _ (counts : List ℕ) (flags : ℕ) where
       go : (b : Bool) → Same (length counts) 5 b → not b || ltb 7 flags ≡ false → length counts ≡ 5
       go b (same h) f = h
       go b (other h) f = absurd (let z : _≡_ {A = ℕ} 0 1 = cc in omega arith)
-
--- five counts read one by one are the list
-pub five : (l : List ℕ) → length l ≡ 5 → getD l 0 0 ∷ getD l 1 0 ∷ getD l 2 0 ∷ getD l 3 0 ∷ getD l 4 0 ∷ [] ≡ l
-five [] h = absurd (omega arith)
-five (a ∷ []) h = absurd (omega arith)
-five (a ∷ b ∷ []) h = absurd (omega arith)
-five (a ∷ b ∷ c ∷ []) h = absurd (omega arith)
-five (a ∷ b ∷ c ∷ d ∷ []) h = absurd (omega arith)
-five (a ∷ b ∷ c ∷ d ∷ e ∷ []) h = refl
-five (a ∷ b ∷ c ∷ d ∷ e ∷ f ∷ rest) h = absurd (omega arith)
 
 -- the record, from what was read
 pub record-same : (l : List ℕ) (top flags : ℕ) (v : Var) → length l ≡ 5 → v ≡ variable top

@@ -3,7 +3,9 @@ mod renumber;
 
 ghost use mathlib.Core.Path.{_≡_};
 ghost use Rattle.delta_bytes.specs.Delta.{deltaNumber, deltaBytes};
+ghost use Rattle.file_words.specs.Read.{fileSeen, readSeen};
 ghost use Rattle.capi.specs.Renumber.{seen, recordOf, renumberSeen};
+ghost use Rattle.capi.specs.Expand.{listsSeen, expandSeen};
 
 // One delta at a place: 0, with the value, low byte first, in the first eight lent bytes and the count of bytes used in the ninth; or a
 // refusal's number, and the lent bytes as they were. Fewer than nine lent bytes is refusal 3, tested first.
@@ -75,4 +77,66 @@ pub extern "C" fn imdagluz_renumber(
         scratch,
     );
     renumber::put_answer(said, answer)
+}
+
+// Reads a binary AIGER file as `binary::read` does: 0, or a refusal's number. The answer goes to the first eleven words of `answer`: the bytes used, or the
+// place of the refusal; then, 0 for a refusal, M = I + L + A, I, L, A, the five root counts in walk order, the number of justice sets. Fewer than eleven
+// words is refusal 3, tested first, and writes nothing; every other refusal leaves each cell of the four lists 0.
+#[no_mangle]
+pub extern "C" fn imdagluz_read_aig(
+    bytes: &[u8],
+    nexts: &mut [u32],
+    gates: &mut [u32],
+    sizes: &mut [u32],
+    roots: &mut [u32],
+    answer: &mut [u64],
+) -> u32
+    ensures { λ r. ⌜ fileSeen (record {
+      number = r;
+      nexts = now (nexts .exit);
+      gates = now (gates .exit);
+      sizes = now (sizes .exit);
+      roots = now (roots .exit);
+      words = now (answer .exit);
+    }) ≡ readSeen (now (bytes .entry)) (record {
+      nexts = now (nexts .entry);
+      gates = now (gates .entry);
+      sizes = now (sizes .entry);
+      roots = now (roots .entry);
+    }) (now (answer .entry)) ⌝ }
+{
+    file_words::read(bytes, nexts, gates, sizes, roots, answer)
+}
+
+// Of an ordered circuit with I inputs, L latches and gates two words each the lists that renumbering takes, as `ordered::expand` makes them: 0, or a refusal's
+// number, and then nothing is written.
+#[no_mangle]
+pub extern "C" fn imdagluz_expand(
+    inputs: u32,
+    latches: u32,
+    gates: &[u32],
+    input_codes: &mut [u32],
+    state_codes: &mut [u32],
+    triples: &mut [u32],
+) -> u32
+    ensures { λ r. ⌜ listsSeen (record {
+      number = r;
+      inputCodes = now («input_codes» .exit);
+      stateCodes = now («state_codes» .exit);
+      triples = now (triples .exit);
+    }) ≡ expandSeen inputs latches (now (gates .entry)) (record {
+      inputs = now («input_codes» .entry);
+      states = now («state_codes» .entry);
+      triples = now (triples .entry);
+    }) ⌝ }
+{
+    let said = ordered::expand(
+        inputs as usize,
+        latches as usize,
+        gates,
+        input_codes,
+        state_codes,
+        triples,
+    );
+    ordered::number(said)
 }

@@ -3,7 +3,7 @@ use Prim.Native.Nat.{ℕ, _+_, _*_, _/_, _%_, _^_, _<_, _≤_}
 use mir.Syntax.{w64}
 use mir.Val.{Fits}
 use mathlib.Core.Path.{_≡_, refl, sym, ap, _∙_}
-use mathlib.Core.Bool.{Bool, true, false, not, _||_, true≢false}
+use mathlib.Core.Bool.{Bool, true, false, not, _||_}
 use mathlib.Core.Option.{Option, none, some}
 use mathlib.Core.List.{List, [], _∷_}
 use native.Mathlib.Omega.{arith}
@@ -17,6 +17,7 @@ use Rattle.circuit.specs.declared.Refusal.the-variants.{TooBig, Misshapen, Shor
 use Rattle.circuit.specs.Circuit.{codes, firstOver}
 use Rattle.circuit.specs.Outcome.{Lent, circuitOf, limit, tooBig, total, misshapen, tooShort}
 use Rattle.circuit.proofs.Words.{gates-length}
+use Rattle.circuit.proofs.Outcome.{or-false}
 use Rattle.checks.specs.declared.Found.{Found}
 use Rattle.checks.specs.declared.Found.the-variants.{Literal, Nothing}
 use Rattle.checks.specs.declared.Check.{Check}
@@ -122,10 +123,6 @@ module _ (v : ℕ) (n : Lengths) where
               le-ltb (n .«root_images») (n .roots) c,
               le-ltb (n .«gates_out») (2 * n .gates) h,
             )
-
-or-false : (a b : Bool) → a || b ≡ false → (a ≡ false) × (b ≡ false)
-or-false true b e = absurd (true≢false e)
-or-false false b e = (refl, e)
 
 -- checks 1 to 3 in turn, each as its function answers it
 module _ (circuit : CircuitRecord) (n : Lengths) (v : ℕ) (isTop : v ≡ circuit .top .0) (r₁ : Bool) (e₁ : r₁ ≡ overLimit v n) where

@@ -1,5 +1,5 @@
 -- Checks that answer at the first that fails. Assumes nothing.
-use Prim.Native.Nat.{ℕ, _+_, _*_, _/_, _%_, _^_, _<_, _≤_}
+use Prim.Native.Nat.{ℕ, _+_, _*_, _/_, _%_, _≤_}
 use mathlib.Core.Path.{_≡_}
 use mathlib.Core.Bool.{Bool, true, false, not, _||_}
 use mathlib.Core.Option.{Option, none, some}
@@ -90,8 +90,3 @@ passing l =
 pub record Shaped (states nexts gates : List ℕ) : Type 0 where
   pub latches : length states ≡ length nexts
   pub whole : length gates % 3 ≡ 0
-
--- a word as a number
-pub record Counted (word r : ℕ) : Type 0 where
-  pub same : r ≡ word
-  pub fits : r < 2 ^ 32

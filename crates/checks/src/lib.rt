@@ -4,10 +4,11 @@ ghost use Prim.Native.Nat.{_+_, _*_};
 ghost use Rattle.circuit.specs.Outcome.{total};
 ghost use Rattle.circuit.specs.Circuit.{latchCodes, codes, firstOver};
 ghost use Rattle.checks.specs.Bare.{circuitIn};
-ghost use Rattle.checks.specs.Checks.{found, overLimit, unequal, lacks, Small, sizing, passing, Counted, Shaped};
+ghost use Rattle.checks.specs.Checks.{found, overLimit, unequal, lacks, Small, sizing, passing, Shaped};
 use circuit::CircuitRecord;
 use circuit::LIMIT;
 use circuit::Refusal;
+use lent::words::counted;
 use lent::words::wide;
 use lit::Lit;
 use lit::Var;
@@ -57,19 +58,12 @@ fn too_big(top: usize, n: Lengths) -> bool
     LIMIT < n.roots
 }
 
-// A count as a number; five of them cannot overflow a sum.
-fn count(word: u32) -> usize
-    ensures { λ r. ⌜ Counted word r ⌝ }
-{
-    word as usize
-}
-
 // The sum of the five counts.
 pub fn sum(counts: [u32; 5]) -> usize
     ensures { λ r. ⌜ r ≡ total counts ⌝ }
 {
-    count(counts[0])
-        + (count(counts[1]) + (count(counts[2]) + (count(counts[3]) + count(counts[4]))))
+    counted(counts[0])
+        + (counted(counts[1]) + (counted(counts[2]) + (counted(counts[3]) + counted(counts[4]))))
 }
 
 // Check 2.

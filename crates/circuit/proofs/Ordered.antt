@@ -53,7 +53,7 @@ countFrom-append t (suc m) n =
     let e′ : t + 2 * suc m ≡ (t + 2) + 2 * m = omega arith in
     rw (e, e′) (ap {B = List ℕ} (λ l. t ∷ l) (countFrom-append (t + 2) m n))
 
-countFrom-length : (t n : ℕ) → length (countFrom t n) ≡ n
+pub countFrom-length : (t n : ℕ) → length (countFrom t n) ≡ n
 countFrom-length t zero = refl
 countFrom-length t (suc n) = ap suc (countFrom-length (t + 2) n)
 

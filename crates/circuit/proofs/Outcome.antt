@@ -28,7 +28,7 @@ use Rattle.circuit.specs.Tested.{Fits, Tested, InBounds}
 use Rattle.circuit.proofs.Checks.{Over, noneOver, oneOver, overTest}
 use Rattle.circuit.proofs.Renumber.{Limits, Why, Done, Answered, answered}
 
-or-false : (a b : Bool) → a || b ≡ false → (a ≡ false) × (b ≡ false)
+pub or-false : (a b : Bool) → a || b ≡ false → (a ≡ false) × (b ≡ false)
 or-false true b e = absurd (true≢false e)
 or-false false b e = (refl, e)
 

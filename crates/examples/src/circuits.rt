@@ -154,7 +154,7 @@ pub fn outcome(answer: Answer) {
 }
 
 // The name, and the words up to the first 77.
-fn words(name: &[u8], list: &[u32]) {
+pub fn words(name: &[u8], list: &[u32]) {
     say::text(name);
     let mut i = 0;
     while i < list.len() {

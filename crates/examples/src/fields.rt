@@ -58,7 +58,7 @@ pub fn bytes(s: &[u8], from: usize, out: &mut [u8]) -> usize
 }
 
 // What the two hexadecimal digits at a place stand for; more than 255 where they do not stand there.
-fn digits(s: &[u8], at: usize) -> u32 {
+pub fn digits(s: &[u8], at: usize) -> u32 {
     16 * digit(byte(s, at)) + digit(byte(s, sum(at, 1)))
 }
 
@@ -79,7 +79,7 @@ pub fn byte(s: &[u8], at: usize) -> u8 {
 }
 
 // The sum, or the largest number where it would be larger.
-fn sum(a: usize, b: usize) -> usize {
+pub fn sum(a: usize, b: usize) -> usize {
     if b <= 18446744073709551615 - a {
         a + b
     } else {

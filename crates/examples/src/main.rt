@@ -1,8 +1,10 @@
-// Runs the documents' examples and prints a line for each. The literals' stand in `lits.rt`; the tokens' and the circuits' in the file `stdin`
+// Runs the documents' examples and prints a line for each. The literals' stand in `lits.rt`; the tokens', the circuits' and the files' in the file `stdin`
 // beside `src`, a line each; the token reader's and the gate records' in `readings.rt` and `records.rt`. What is printed is held to the file `stdout`,
 // which was written from the documents and not by this program.
 mod circuits;
+mod escapes;
 mod fields;
+mod files;
 mod lists;
 mod lits;
 mod readings;
@@ -33,12 +35,13 @@ fn lines(s: &[u8]) {
     }
 }
 
-// The first letter tells a circuit, a map and a token apart. A line that is empty or begins with `#` is for the reader.
+// The first letter tells a circuit, a map, a file and a token apart. A line that is empty or begins with `#` is for the reader.
 fn line(s: &[u8]) {
     match fields::byte(s, 0) {
         0 | b'#' => {}
         b'V' => circuits::answer(s),
         b'M' => circuits::in_map(s),
+        b'f' => files::answer(s),
         _ => tokens::answer(s),
     }
 }

@@ -97,15 +97,19 @@ fn renumbered(name: &[u8], inputs: &[u32], second: GateRecord, flat: &mut [u32])
     words(b"  records laid flat", flat);
 }
 
-// The name, and every word of the list.
 fn words(name: &[u8], list: &[u32]) {
+    cells(name, list);
+    say::line_end();
+}
+
+// The name, and every word of the list.
+pub fn cells(name: &[u8], list: &[u32]) {
     say::text(name);
     let mut i = 0;
     while i < list.len() {
         word(list[i]);
         i += 1;
     }
-    say::line_end();
 }
 
 fn word(w: u32) {

@@ -1,7 +1,8 @@
-// Words as numbers, and filling lent words.
+// Words as numbers, and storing and filling lent words.
 ghost use mathlib.Core.Path.{_≡_};
-ghost use lib.ListN.{length, replicate};
+ghost use lib.ListN.{length, replicate, set};
 ghost use Rattle.lit.specs.Code.{var};
+ghost use Rattle.lent.specs.Counted.{Counted};
 ghost use Rattle.circuit.specs.Outcome.{onto};
 use lit::Lit;
 
@@ -12,11 +13,27 @@ pub fn wide(x: u32) -> usize
     x as usize
 }
 
+// The same, known to be a word's: a few of them can't overflow a sum.
+pub fn counted(word: u32) -> usize
+    ensures { λ r. ⌜ Counted word r ⌝ }
+{
+    word as usize
+}
+
 // The place of a literal's variable in a table that has a word for each variable.
 pub fn place_of(lit: Lit) -> usize
     ensures { λ r. ⌜ r ≡ var (lit .0) ⌝ }
 {
     wide(lit.var().index())
+}
+
+// One word in a cell, if the cell is there.
+pub fn store(list: &mut [u32], at: usize, word: u32)
+    ensures { λ _. ⌜ now (list .exit) ≡ set (now (list .entry)) at word ⌝ }
+{
+    if at < list.len() {
+        list[at] = word;
+    }
 }
 
 // Puts the value into the first `count` words, as far as there are so many.

@@ -1,11 +1,11 @@
 -- The tokens of document 01, the paper's numbers, and the tokens that pin the definitions, by computation: each is one on which a neighbouring definition
 -- answers otherwise. Assumes nothing.
-use Prim.Native.Nat.{ℕ}
+use Prim.Native.Nat.{ℕ, zero, suc}
 use mathlib.Core.Path.{_≡_, refl}
 use mathlib.Core.Bool.{true, false}
 use mathlib.Core.List.{List, [], _∷_}
 use native.Mathlib.Omega.{arith}
-use Rattle.token.specs.Format.{isDigit, goesOn, Grouped, final, group, digitsOf, shortest}
+use Rattle.token.specs.Format.{Bytes, isDigit, goesOn, Grouped, final, group, digitsOf, shortest}
 use Rattle.token.specs.Answer.{reasonNumber, tokenNumber, pairNumber, digitsAt, uintAt, goOnAt, binaryAt, less, deltaAt, within, assigned, headerFieldAt, litAt, symbolIndexAt, pairOf, pairSecond, pairFirst, pairAt}
 use Rattle.token.specs.declared.Reason.the-variants.{NoDigit, LeadingZero, OverWidth, OverLimit, AssignsZero, AssignsOdd, Cut, TooLong, OverReference}
 use Rattle.token.specs.declared.Token.the-variants.{Value, Refused}
@@ -85,6 +85,15 @@ numbers = (refl, refl, refl, refl, refl, refl, refl, refl, refl, refl, refl, ref
 pub bytes :
     (isDigit 47 ≡ false) × (isDigit 48 ≡ true) × (isDigit 57 ≡ true) × (isDigit 58 ≡ false) × (goesOn 0x7f ≡ false) × (goesOn 0x80 ≡ true)
 bytes = (refl, refl, refl, refl, refl, refl)
+
+-- a list of bytes, 255 the largest; and one in which 256 stands second
+pub all-bytes : Bytes (255 ∷ 7 ∷ []) × (Bytes (7 ∷ 256 ∷ []) → ⊥)
+all-bytes = (fit, λ b. omega (arith, b 1))
+  where
+    fit : Bytes (255 ∷ 7 ∷ [])
+    fit zero = omega arith
+    fit (suc zero) = omega arith
+    fit (suc (suc i)) = omega arith
 
 -- decimals behind other bytes
 pub decimals :

@@ -10,13 +10,12 @@ use lib.Dec.{ltb, leb}
 use lib.ListN.{length, getD, take, drop, length-append, length-take, length-drop}
 use lib.Seq.{drop-append-seam, take-append-add, take-at, take-take, getD-drop}
 use borrow.Author.Tests.{ltb-true, ltb-false, leb-true, leb-false, lt-leb, le-leb}
-use Rattle.token.specs.Format.{leading, goesOn, groupsValue, groupsUpTo, shortest, Grouped, final, group}
+use Rattle.token.specs.Format.{leading, goesOn, groupsValue, groupsUpTo, shortest, Grouped, final, group, Bytes}
 use Rattle.token.specs.Answer.{goOnAt, binaryOf, binaryAt, deltaAt, pairAt}
 use Rattle.token.specs.declared.Token.the-variants.{Value}
 use Rattle.token.specs.declared.PairToken.the-variants.{Inputs}
 use Rattle.token.proofs.Groups.{eightAt, groups-lt}
 use Rattle.token.proofs.Deltas.{binary-read, binary-used, pair-of}
-use Rattle.token.specs.Claims.{Bytes}
 
 -- grouped bytes are read
 

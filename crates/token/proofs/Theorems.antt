@@ -4,7 +4,7 @@ use mathlib.Core.Bool.{Bool, true, false}
 use mathlib.Core.List.{List, [], _∷_, _++_}
 use Prim.Native.Nat.{ℕ, _+_, _-_, _%_, _^_, _≤_, _<_}
 use lib.ListN.{length, getD, take, drop}
-use Rattle.token.specs.Format.{leading, isDigit, decimalValue, groupsValue, Grouped, digitsOf, shortest}
+use Rattle.token.specs.Format.{leading, isDigit, decimalValue, groupsValue, Grouped, digitsOf, shortest, Bytes}
 use Rattle.token.specs.Answer.{digitsAt, uintAt, goOnAt, binaryAt, deltaAt, within, assigned, headerFieldAt, litAt, symbolIndexAt, pairAt, tokenNumber, pairNumber}
 use Rattle.token.specs.declared.Reason.{Reason}
 use Rattle.token.specs.declared.Reason.the-variants.{NoDigit, LeadingZero, OverWidth, OverLimit, AssignsZero, AssignsOdd, Cut, OverReference}
@@ -31,7 +31,7 @@ use Rattle.token.proofs.symbol_index.Kinds as symbol-index-kinds
 use Rattle.token.proofs.symbol_index.Reads as symbol-index-contract
 use Rattle.token.proofs.pair.Kinds as pair-kinds
 use Rattle.token.proofs.pair.Reads as pair-contract
-use Rattle.token.specs.Claims.{Bytes, Used, PairUsed, DecimalUsed, NamesPlace, RefusedDelta, Everyone}
+use Rattle.token.specs.Claims.{Used, PairUsed, DecimalUsed, NamesPlace, RefusedDelta, Everyone}
 
 -- 1. Each contract determines its answer: of any two answers that it allows for the same bytes, place and numbers, each is the other.
 

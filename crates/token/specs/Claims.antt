@@ -1,9 +1,9 @@
 -- The words of the theorems about tokens. Assumes nothing.
-use Prim.Native.Nat.{ℕ, _+_, _≤_, _<_}
+use Prim.Native.Nat.{ℕ, _+_, _≤_}
 use mathlib.Core.Path.{_≡_}
 use mathlib.Core.Bool.{Bool}
 use mathlib.Core.List.{List}
-use lib.ListN.{length, getD}
+use lib.ListN.{length}
 use Rattle.token.specs.declared.Reason.{Reason}
 use Rattle.token.specs.declared.Token.{Token}
 use Rattle.token.specs.declared.Token.the-variants.{Value, Refused}
@@ -43,7 +43,3 @@ NamesPlace at (Refused why place) = place ≡ at
 pub data RefusedDelta (s : List ℕ) (at code : ℕ) (why : Reason) (place : ℕ) : Type 0 where
   first : deltaAt s at code ≡ Refused why place → place ≡ at → RefusedDelta s at code why place
   second : (a n : ℕ) → deltaAt s at code ≡ Value a n → deltaAt s (at + n) a ≡ Refused why place → place ≡ at + n → RefusedDelta s at code why place
-
--- every byte is one
-abbrev pub Bytes : List ℕ → Type 0
-Bytes s = (i : ℕ) → getD s i 0 < 256

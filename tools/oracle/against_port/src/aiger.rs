@@ -108,8 +108,17 @@ fn read_by_crate(bytes: &[u8], binary: bool) -> File {
         false => ascii::Parser::from_read(bytes, Default::default()).and_then(|parser| parser.parse()),
     }
     .expect("the crate reads the file");
+    File {
+        circuit: circuit_of(&aig),
+        resets: aig.latches.iter().map(|latch| latch.initialization).collect(),
+        justice: aig.justice_properties.iter().map(|list| list.len() as u64).collect(),
+    }
+}
+
+/// The lists of the crate's record.
+pub fn circuit_of(aig: &Aig<u32>) -> Circuit {
     let codes = |list: &[u32]| list.iter().map(|&code| code as u64).collect::<Vec<u64>>();
-    let circuit = Circuit {
+    Circuit {
         largest: aig.max_var_index as u64,
         inputs: codes(&aig.inputs),
         gates: aig.and_gates.iter().map(|gate| [gate.output, gate.inputs[0], gate.inputs[1]].map(u64::from)).collect(),
@@ -122,11 +131,6 @@ fn read_by_crate(bytes: &[u8], binary: bool) -> File {
             codes(&aig.justice_properties.concat()),
         ],
         flags: 0,
-    };
-    File {
-        circuit,
-        resets: aig.latches.iter().map(|latch| latch.initialization).collect(),
-        justice: aig.justice_properties.iter().map(|list| list.len() as u64).collect(),
     }
 }
 

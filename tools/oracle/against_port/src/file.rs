@@ -1,6 +1,8 @@
-//! A real file: renumbered by the port and by the crate as it stands and renamed at random, with all flags, and written again as the port ordered it.
+//! A real file: read, if it is binary, and renumbered by the port and by the crate as it stands and renamed at random, with all flags, and written again as the port ordered
+//! it, which is read again.
 use crate::{
     aiger::{self, File},
+    binary,
     outcome::{by_crate, by_port, difference, Lists, Outcome},
 };
 use judge::{circuit::Circuit, random::Random};
@@ -8,13 +10,18 @@ use std::{fs, path::Path, process::exit};
 
 const LIMIT: u64 = 1_048_575;
 
-/// Compares both outcomes of a file in three orders with every choice of flags, and writes FOLDER/ORDER-FLAGS.aig. Ends the program at a difference.
+/// Compares both readings of a file, and both outcomes in three orders with every choice of flags, and writes FOLDER/ORDER-FLAGS.aig. Ends the program at a difference.
 pub fn compare(path: &str, folder: &str, seed: u64) {
-    let file = aiger::read(&fs::read(path).expect("the file can be read"));
+    let bytes = fs::read(path).expect("the file can be read");
+    let file = aiger::read(&bytes);
     let Circuit { largest, inputs, gates, latches, roots, .. } = &file.circuit;
     let counts = roots.each_ref().map(Vec::len);
     let resets = [Some(false), Some(true), None].map(|value| file.resets.iter().filter(|&&reset| reset == value).count());
     println!("V={largest}, {} inputs, {} latches, {} gates, roots {counts:?}, resets {resets:?}", inputs.len(), latches.len(), gates.len());
+    if bytes.starts_with(b"aig ") {
+        let used = binary::whole(&bytes, &file.circuit);
+        println!("  read and expanded by the port as by the crate, {used} of {} bytes", bytes.len());
+    }
     let mut random = Random(seed);
     let shuffled = renamed(&file.circuit, &mut random, false);
     let signs = renamed(&file.circuit, &mut random, true);
@@ -24,7 +31,7 @@ pub fn compare(path: &str, folder: &str, seed: u64) {
         made.push(counts.collect::<Vec<_>>().join(" "));
     }
     made.dedup();
-    println!("  24 outcomes alike; gates made with the flags 0 to 7: {}", made.join("; "));
+    println!("  24 outcomes alike, and the 24 files that were written are read alike; gates made with the flags 0 to 7: {}", made.join("; "));
 }
 
 /// One outcome, compared and written: the number of gates made.
@@ -39,7 +46,9 @@ fn one(file: &File, circuit: &Circuit, order: &str, flags: u64, folder: &str) ->
     assert_eq!(port.number, 0, "a file's circuit can be ordered");
     let ordered = File { circuit: ordered(&circuit, &port), resets: file.resets.clone(), justice: file.justice.clone() };
     let path = Path::new(folder).join(format!("{order}-{flags}.aig"));
-    fs::write(path, aiger::write(&ordered)).expect("the file can be written");
+    let written = aiger::write(&ordered);
+    binary::whole(&written, &ordered.circuit);
+    fs::write(path, written).expect("the file can be written");
     port.words[1]
 }
 

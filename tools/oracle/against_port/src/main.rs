@@ -4,13 +4,19 @@
 //!     against_port random SEED COUNT MAXGATES    random circuits of every kind, lent lists of every length near the needed one
 //!     against_port sharing SEED COUNT MAXGATES   random circuits in which many gates share a few nodes; one in eight with a fault
 //!     against_port large                         the limits and one over, a long chain, a full stack, a wide fan-out
+//!     against_port binary small                  binary files: short endings of each section, every shape of header cut at each byte
+//!     against_port binary random SEED COUNT MAXGATES    good and damaged binary files in lists of every length near the needed one
+//!     against_port binary large                  binary files at the limits and one over
+//!     against_port expansions SEED COUNT         ordered circuits expanded, at the limits too
 //!     against_port file FILE FOLDER SEED         an AIGER file in three orders, with all flags; writes FOLDER/ORDER-FLAGS.aig as the port ordered it
 //!     against_port flip FILE WHICH TO            the file with one literal flipped: of a next state, a root or a gate (WHICH)
 //!
 //! Prints how many of each answer there were. At the first difference it prints the smallest circuit it can shrink it to and ends with 1.
 mod aiger;
+mod binary;
 mod file;
 mod outcome;
+mod reading;
 mod shrink;
 
 use judge::{circuit::Circuit, circuit_kinds, random::Random};
@@ -75,12 +81,11 @@ fn main() {
         ["random", s, c, g] => random(&mut tally, Random(number(s)), number(c), number(g), of_every_kind),
         ["sharing", s, c, g] => random(&mut tally, Random(number(s)), number(c), number(g), sharing),
         ["large"] => large(&mut tally),
+        ["binary", ref run @ ..] => return binary_files(run),
+        ["expansions", s, c] => return binary::expansions(Random(number(s)), number(c)),
         ["file", path, folder, seed] => return file::compare(path, folder, number(seed)),
         ["flip", path, which, to] => return file::flip(path, which, to),
-        _ => {
-            eprintln!("usage: against_port small | random SEED COUNT MAXGATES | sharing SEED COUNT MAXGATES | large | file FILE FOLDER SEED | flip FILE WHICH TO");
-            exit(2)
-        }
+        _ => misused(),
     }
     let total: u64 = tally.answers.values().sum();
     println!("{}: {total} circuits, no difference", arguments.join(" "));
@@ -90,6 +95,26 @@ fn main() {
             _ => println!("  refused {number}: {count}"),
         }
     }
+}
+
+fn misused() -> ! {
+    eprintln!("usage: against_port small | random SEED COUNT MAXGATES | sharing SEED COUNT MAXGATES | large");
+    eprintln!("     | binary small | binary random SEED COUNT MAXGATES | binary large | expansions SEED COUNT");
+    eprintln!("     | file FILE FOLDER SEED | flip FILE WHICH TO");
+    exit(2)
+}
+
+/// A run over binary files, and what it found.
+fn binary_files(run: &[&str]) {
+    let number = |text: &str| text.parse::<u64>().expect("a number");
+    let mut tally = binary::Tally::default();
+    match *run {
+        ["small"] => binary::small(&mut tally),
+        ["random", s, c, g] => binary::random(&mut tally, Random(number(s)), number(c), number(g)),
+        ["large"] => binary::large(&mut tally),
+        _ => misused(),
+    }
+    tally.tell(&format!("binary {}", run.join(" ")));
 }
 
 /// Every circuit of up to two gates over an input, with a root, and of up to one gate with a latch too; all codes of V = G + 2, or of V = G + 3 beside a latch,

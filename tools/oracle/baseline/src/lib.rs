@@ -2,10 +2,10 @@
 //! stand-in's, over bytes in memory.
 use flussab::{text::LineReader, DeferredReader};
 use flussab_aiger::{
-    aig::{Aig, AndGate, Renumber, RenumberConfig},
-    token,
+    aig::{Aig, AndGate, OrderedAig, Renumber, RenumberConfig},
+    binary, token, ParseError,
 };
-use std::slice;
+use std::{ptr, slice};
 
 /// A reader over the bytes; it is never freed.
 ///
@@ -83,4 +83,92 @@ pub unsafe extern "C" fn crate_renumber(circuit: *const Aig<u32>, flags: u32) ->
         Ok((ordered, _)) => ordered.and_gates.len() as u32,
         Err(_) => u32::MAX,
     }
+}
+
+/// What was read of a binary file, and its justice sizes; all justice literals are one list.
+pub struct FileRead(OrderedAig<u32>, Vec<usize>);
+
+/// Reads a binary file by the staged calls, up to its last gate: what `crate_sum` takes, or null where the crate refuses it.
+///
+/// # Safety
+/// `bytes` points to `length` bytes that can be read.
+#[no_mangle]
+pub unsafe extern "C" fn crate_read(bytes: *const u8, length: usize) -> *mut FileRead {
+    let bytes = unsafe { slice::from_raw_parts(bytes, length) };
+    staged(bytes).map_or(ptr::null_mut(), |read| Box::into_raw(Box::new(read)))
+}
+
+/// The sum of all words that were read, which are dropped.
+///
+/// # Safety
+/// `read` comes from `crate_read` and is not used again.
+#[no_mangle]
+pub unsafe extern "C" fn crate_sum(read: *mut FileRead) -> u64 {
+    let FileRead(read, sizes) = *unsafe { Box::from_raw(read) };
+    sum(&read, &sizes)
+}
+
+/// What the file holds, in lists with room for all that its header counts.
+fn staged(bytes: &[u8]) -> Result<FileRead, ParseError> {
+    let parser = binary::Parser::<u32>::from_read(bytes, binary::Config::default())?;
+    let header = parser.header();
+    let mut read = OrderedAig {
+        max_var_index: header.max_var_index,
+        input_count: header.input_count,
+        latches: Vec::with_capacity(header.latch_count),
+        outputs: Vec::with_capacity(header.output_count),
+        bad_state_properties: Vec::with_capacity(header.bad_state_property_count),
+        invariant_constraints: Vec::with_capacity(header.invariant_constraint_count),
+        fairness_constraints: Vec::with_capacity(header.fairness_constraint_count),
+        and_gates: Vec::with_capacity(header.and_gate_count),
+        ..OrderedAig::default()
+    };
+    let mut sizes = Vec::with_capacity(header.justice_property_count);
+    let mut stage = parser.latches()?;
+    while let Some(latch) = stage.next_latch()? {
+        read.latches.push(latch);
+    }
+    let mut stage = stage.outputs()?;
+    while let Some(root) = stage.next_output()? {
+        read.outputs.push(root);
+    }
+    let mut stage = stage.bad_state_properties()?;
+    while let Some(root) = stage.next_bad_state_property()? {
+        read.bad_state_properties.push(root);
+    }
+    let mut stage = stage.invariant_constraints()?;
+    while let Some(root) = stage.next_invariant_constraint()? {
+        read.invariant_constraints.push(root);
+    }
+    let mut stage = stage.justice_properties()?;
+    while let Some(size) = stage.next_justice_property_size()? {
+        sizes.push(size);
+    }
+    let mut justice = Vec::with_capacity(sizes.iter().sum());
+    let mut stage = stage.justice_property_local_fairness_constraints()?;
+    while let Some(root) = stage.next_justice_property_local_fairness_constraint()? {
+        justice.push(root);
+    }
+    read.justice_properties = vec![justice];
+    let mut stage = stage.fairness_constraints()?;
+    while let Some(root) = stage.next_fairness_constraint()? {
+        read.fairness_constraints.push(root);
+    }
+    let mut stage = stage.and_gates()?;
+    while let Some(gate) = stage.next_and_gate()? {
+        read.and_gates.push(gate);
+    }
+    Ok(FileRead(read, sizes))
+}
+
+/// The sum of all words that were read.
+fn sum(read: &OrderedAig<u32>, sizes: &[usize]) -> u64 {
+    let words = |list: &[u32]| list.iter().map(|&word| word as u64).sum::<u64>();
+    let nexts: u64 = read.latches.iter().map(|latch| latch.next_state as u64).sum();
+    let gates: u64 = read.and_gates.iter().map(|gate| words(&gate.inputs)).sum();
+    let roots = [&read.outputs, &read.bad_state_properties, &read.invariant_constraints, &read.fairness_constraints];
+    nexts + gates
+        + roots.map(|list| words(list)).iter().sum::<u64>()
+        + words(&read.justice_properties[0])
+        + sizes.iter().map(|&size| size as u64).sum::<u64>()
 }

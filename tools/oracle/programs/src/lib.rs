@@ -3,6 +3,12 @@
 pub mod circuit;
 pub mod circuit_kinds;
 pub mod examples;
+pub mod file_compare;
+pub mod file_crate;
+pub mod file_examples;
+pub mod file_kinds;
+pub mod file_shrink;
+pub mod file_words;
 pub mod hex;
 pub mod random;
 pub mod sheet;

@@ -1,9 +1,9 @@
--- `records::words` ends and reads within the list. Assumes nothing.
+-- `records::cells` ends and reads within the list. Assumes nothing.
 use Prim.Native.Nat.{_≤_, _-_}
 use lib.ListN.{length}
 use borrow.Author.Needs.{needs}
-use Rattle.examples.proofs.records.words.Statement.{statement}
-use Rattle.examples.proofs.records.words.Tie as tie
+use Rattle.examples.proofs.records.cells.Statement.{statement}
+use Rattle.examples.proofs.records.cells.Tie as tie
 
 abbrev Inv-loop : tie.InvT-loop
 Inv-loop name list i₀ i = i ≤ length list
@@ -35,14 +35,11 @@ loop-less c = search needs
 loop-again : tie.Need-loop-again Inv-loop μ-loop
 loop-again c = search needs
 
-line-end-requires : tie.Need-line-end-requires Inv-loop μ-loop
-line-end-requires c κs = search needs
-
 returns : tie.Need-returns Inv-loop μ-loop
 returns c = search needs
 
-pub words-spec : {M : Type 1} → statement M
-words-spec =
+pub cells-spec : {M : Type 1} → statement M
+cells-spec =
     tie.close
     (tie.spec
     Inv-loop
@@ -55,5 +52,4 @@ words-spec =
     add-i
     loop-less
     loop-again
-    line-end-requires
     returns)

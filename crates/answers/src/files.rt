@@ -1,0 +1,35 @@
+// Questions about binary files: the word `file` and the file's bytes. The answer is `F`, the number and the eleven words of `file_words::read`, and of a
+// file that is taken the next states, gates, justice sizes and roots. The lists are long enough for every file that is asked about; they hold
+// a word that is no literal, so that a word written past those named would show.
+use crate::fields;
+use crate::say;
+
+pub fn answer(line: &[u8]) {
+    let mut file = [0u8; 256];
+    let n = fields::bytes(line, fields::after_word(line), &mut file);
+    read(&file[..n]);
+}
+
+fn read(file: &[u8]) {
+    let mut nexts = [4294967295u32; 16];
+    let mut gates = [4294967295u32; 128];
+    let mut sizes = [4294967295u32; 8];
+    let mut roots = [4294967295u32; 32];
+    let mut words = [0u64; 11];
+    let number = file_words::read(
+        file,
+        &mut nexts,
+        &mut gates,
+        &mut sizes,
+        &mut roots,
+        &mut words,
+    );
+    say::file(number, &words);
+    if number == 0 {
+        say::front(&nexts);
+        say::front(&gates);
+        say::front(&sizes);
+        say::front(&roots);
+    }
+    say::text(b"\n");
+}

@@ -1,0 +1,4 @@
+pub mod Words
+pub mod Pins
+pub mod Refusals
+pub mod Theorems

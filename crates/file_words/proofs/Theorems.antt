@@ -1,0 +1,103 @@
+-- What follows of the contract of reading for C: it allows one outcome, gives these refusals and no others, none past the end, and with lists of the limits
+-- never 3. The examples stand in Pins.antt. Assumes nothing.
+use Prim.Native.Nat.{ℕ, _≤_}
+use mathlib.Core.Path.{_≡_, refl, sym, _∙_, ap}
+use mathlib.Core.Logic.{_≢_}
+use mathlib.Core.Bool.{Bool, true, false, _||_}
+use mathlib.Core.List.{List, [], _∷_}
+use native.Mathlib.Omega.{arith}
+use lib.Dec.{eqb}
+use lib.ListN.{length}
+use borrow.Author.Tests.{le-ltb}
+use denote.Ref.{now}
+use Rattle.promise.specs.Determined.{DeterminesCells}
+use Rattle.lines.specs.Numbers.{faultNumber}
+use Rattle.token.specs.Answer.{reasonNumber}
+use Rattle.token.specs.declared.Reason.{Reason}
+use Rattle.token.specs.declared.Reason.the-variants.{NoDigit, LeadingZero, OverWidth, OverLimit, AssignsZero, AssignsOdd, Cut, TooLong, OverReference}
+use Rattle.lines.specs.declared.Fault.{Fault}
+use Rattle.lines.specs.declared.Fault.the-variants.{Number, Missing, Above, TooMany, Short}
+use Rattle.lines.specs.Reading.{Read, got, no}
+use Rattle.binary.specs.File.{File, Room, readFile}
+use Rattle.binary.specs.Known.{Ample}
+use Rattle.binary.specs.Promise.{Lists, roomOf, left}
+use Rattle.binary.proofs.Theorems.{never-short}
+use Rattle.file_words.specs.Read.{Seen, fileNumber, readSeen}
+use Rattle.file_words.proofs.Refusals.{Only, Has, only-read}
+use Rattle.file_words.proofs.read.Kinds as read-kinds
+use Rattle.file_words.proofs.read.Reads as read-promise
+
+-- any two outcomes that the contract of `read` allows for the same arguments are equal: the number, each of the four lists, and the answer words
+pub one-read :
+    DeterminesCells 6 read-kinds.ps read-kinds.r read-promise.Learnt {A = List ℕ × List ℕ × List ℕ × List ℕ × List ℕ}
+    (λ κs e. (now (e .1 .0), now (e .1 .1 .0), now (e .1 .1 .1 .0), now (e .1 .1 .1 .1 .0), now (e .1 .1 .1 .1 .1 .0)))
+one-read κs a x y e f p q =
+    (ap (λ (s : Seen). s .number) (p ∙ sym q), ap (λ (s : Seen). (s .nexts, s .gates, s .sizes, s .roots, s .words)) (p ∙ sym q))
+
+-- whether a number is one of a list
+abbrev pub among : ℕ → List ℕ → Bool
+among n [] = false
+among n (m ∷ ms) = eqb n m || among n ms
+
+-- a file is refused by one of these numbers, whatever the lists
+abbrev pub Given : Fault → Type 0
+Given why = among (faultNumber why) (1 ∷ 3 ∷ 10 ∷ 11 ∷ 12 ∷ 15 ∷ 16 ∷ 17 ∷ 18 ∷ 19 ∷ []) ≡ true
+
+has-given : Has Given
+has-given =
+    record {
+      no-digit = refl;
+      leading-zero = refl;
+      over-width = refl;
+      over-limit = refl;
+      cut = refl;
+      too-long = refl;
+      over-reference = refl;
+      missing = refl;
+      above = refl;
+      too-many = refl;
+      short = refl;
+    }
+
+-- and its place is not past the end of the bytes
+pub refusals-given : (bytes : List ℕ) (room : Room) (why : Fault) (place : ℕ) → readFile bytes room ≡ no why place → Given why × (place ≤ length bytes)
+refusals-given bytes room why place e = refusal (readFile bytes room) (only-read bytes room Given has-given) e
+  where
+    refusal : (R : Read File) → Only bytes Given R → R ≡ no why place → Given why × (place ≤ length bytes)
+    refusal (got f at) h e = absurd (let z : _≡_ {A = ℕ} 0 1 = cc in omega arith)
+    refusal (no w at) h e = let same : w ≡ why = cc in let here : at ≡ place = cc in (rw (← same) (h .0), omega (arith, h .1, here))
+
+-- nor are there more bytes used than there are
+pub bytes-used : (bytes : List ℕ) (room : Room) (f : File) (n : ℕ) → readFile bytes room ≡ got f n → n ≤ length bytes
+bytes-used bytes room f n e = taken (readFile bytes room) (only-read bytes room Given has-given) e
+  where
+    taken : (R : Read File) → Only bytes Given R → R ≡ got f n → n ≤ length bytes
+    taken (got g at) h e = let here : at ≡ n = cc in omega (arith, h, here)
+    taken (no w at) h e = absurd (let z : _≡_ {A = ℕ} 0 1 = cc in omega arith)
+
+-- with room for the answer and lists of the limits, 1,048,575 words for next states, sizes and roots, 2,097,150 for gates, no file is answered 3
+pub never-three : (bytes : List ℕ) (l : Lists) (words : List ℕ) → 11 ≤ length words → Ample (roomOf l) → readSeen bytes l words .number ≢ 3
+unfolding readSeen
+never-three bytes l words room ample = rw (le-ltb (length words) 11 room) (go (readFile bytes (roomOf l)) refl)
+  where
+    refused : (why : Fault) (place : ℕ) → readFile bytes (roomOf l) ≡ no why place → Given why → faultNumber why ≢ 3
+    refused (Number why) place e g = reason why g
+      where
+        reason : (w : Reason) → Given (Number w) → reasonNumber w ≢ 3
+        reason NoDigit h = omega arith
+        reason LeadingZero h = omega arith
+        reason OverWidth h = omega arith
+        reason OverLimit h = omega arith
+        reason AssignsZero h = omega arith
+        reason AssignsOdd h = omega arith
+        reason Cut h = omega arith
+        reason TooLong h = omega arith
+        reason OverReference h = omega arith
+    refused Missing place e g = omega arith
+    refused Above place e g = omega arith
+    refused TooMany place e g = omega arith
+    refused Short place e g = absurd (never-short bytes (roomOf l) ample place e)
+
+    go : (R : Read File) → readFile bytes (roomOf l) ≡ R → fileNumber (left R l .read .answer) ≢ 3
+    go (got f at) e = omega arith
+    go (no why place) e = refused why place e (refusals-given bytes (roomOf l) why place e .0)

@@ -1,0 +1,90 @@
+-- Expanding an ordered circuit by example: each the smallest on which a neighbouring definition answers otherwise. The lists are dirty, each with numbers of
+-- its own, and longer than asked; the words past those asked for are seen to stay. By computation. Assumes nothing.
+use Prim.Native.Nat.{ℕ}
+use mathlib.Core.Path.{_≡_, refl}
+use mathlib.Core.Bool.{Bool}
+use mathlib.Core.List.{List, [], _∷_}
+use Rattle.lit.specs.Code.{variable}
+use Rattle.circuit.specs.Walk.{Pair, firstCode}
+use Rattle.circuit.specs.Graph.{Gate}
+use Rattle.circuit.specs.Ordered.{Ordered}
+use Rattle.circuit.specs.Outcome.{Lent, lentOf}
+use Rattle.ordered.specs.declared.Expansion.{Expansion}
+use Rattle.ordered.specs.declared.Expansion.the-variants.{Expanded, TooBig, Misshapen, Short}
+use Rattle.ordered.specs.Expand.{expansionNumber, gateWords, Lists, Outcome, seen, filled, expansion, Lends}
+
+-- the three lists, and with an answer what is left of them
+abbrev lists : List ℕ → List ℕ → List ℕ → Lists
+lists inputs states triples = record { inputs = inputs; states = states; triples = triples }
+
+abbrev leaves : Expansion → Lists → Outcome
+leaves answer left = record { answer = answer; lists = left }
+
+abbrev gate : ℕ → ℕ → ℕ → Gate
+gate o a b = record { output = o; first = a; second = b }
+
+pub words-pinned :
+    (expansionNumber Expanded ≡ 0)
+    × (expansionNumber TooBig ≡ 1)
+    × (expansionNumber Misshapen ≡ 2)
+    × (expansionNumber Short ≡ 3)
+    × (gateWords (gate 1 2 3 ∷ gate 4 5 6 ∷ []) ≡ (1 ∷ 2 ∷ 3 ∷ 4 ∷ 5 ∷ 6 ∷ []))
+    × (seen Short (lists (1 ∷ []) (2 ∷ []) (3 ∷ [])) ≡ leaves Short (lists (1 ∷ []) (2 ∷ []) (3 ∷ [])))
+words-pinned = (refl, refl, refl, refl, refl, refl)
+
+-- two gates, 12(6,2) and 14(3,9) where there are three inputs and two latches; the second has its inputs as they are given
+abbrev two : List ℕ
+two = (6 ∷ 2 ∷ 3 ∷ 9 ∷ [])
+
+-- lists that are longer than these ask
+abbrev dirty : Lists
+dirty = lists (21 ∷ 22 ∷ 23 ∷ 24 ∷ []) (31 ∷ 32 ∷ 33 ∷ []) (41 ∷ 42 ∷ 43 ∷ 44 ∷ 45 ∷ 46 ∷ 47 ∷ [])
+
+pub expansions-pinned :
+    -- inputs 2, 4, 6, the latches' states 8 and 10, gates 12 and 14; the word past each stays; and lists that are just long enough
+    (filled 3 2 two dirty ≡ lists (2 ∷ 4 ∷ 6 ∷ 24 ∷ []) (8 ∷ 10 ∷ 33 ∷ []) (12 ∷ 6 ∷ 2 ∷ 14 ∷ 3 ∷ 9 ∷ 47 ∷ []))
+    × (expansion 3 2 two dirty ≡ leaves Expanded (lists (2 ∷ 4 ∷ 6 ∷ 24 ∷ []) (8 ∷ 10 ∷ 33 ∷ []) (12 ∷ 6 ∷ 2 ∷ 14 ∷ 3 ∷ 9 ∷ 47 ∷ [])))
+    × (expansion 3 2 two (lists (9 ∷ 9 ∷ 9 ∷ []) (9 ∷ 9 ∷ []) (9 ∷ 9 ∷ 9 ∷ 9 ∷ 9 ∷ 9 ∷ []))
+    ≡ leaves Expanded (lists (2 ∷ 4 ∷ 6 ∷ []) (8 ∷ 10 ∷ []) (12 ∷ 6 ∷ 2 ∷ 14 ∷ 3 ∷ 9 ∷ [])))
+    -- one of each, in lists that are just long enough; nothing at all
+    × (expansion 1 1 (5 ∷ 3 ∷ []) (lists (9 ∷ []) (9 ∷ []) (9 ∷ 9 ∷ 9 ∷ [])) ≡ leaves Expanded (lists (2 ∷ []) (4 ∷ []) (6 ∷ 5 ∷ 3 ∷ [])))
+    × (expansion 0 0 [] dirty ≡ leaves Expanded dirty)
+    -- I, L, and the sum of I, L and G at 1,048,575, and one over it; an odd word is no gate
+    × (expansion 1048575 0 [] dirty ≡ leaves Short dirty)
+    × (expansion 1048576 0 [] dirty ≡ leaves TooBig dirty)
+    × (expansion 0 1048575 [] dirty ≡ leaves Short dirty)
+    × (expansion 0 1048576 [] dirty ≡ leaves TooBig dirty)
+    × (expansion 1048572 1 two dirty ≡ leaves Short dirty)
+    × (expansion 1048573 1 two dirty ≡ leaves TooBig dirty)
+    × (expansion 1048572 1 (1 ∷ two) dirty ≡ leaves Misshapen dirty)
+    × (expansion 1048572 1 (1 ∷ 2 ∷ two) dirty ≡ leaves TooBig dirty)
+    -- 1 before 2; three words of gates: 2, before the short lists; one
+    × (expansion 1048573 1 (1 ∷ two) dirty ≡ leaves TooBig dirty)
+    × (expansion 3 2 (6 ∷ 2 ∷ 3 ∷ []) dirty ≡ leaves Misshapen dirty)
+    × (expansion 3 2 (6 ∷ 2 ∷ 3 ∷ []) (lists [] [] []) ≡ leaves Misshapen (lists [] [] []))
+    × (expansion 3 2 (6 ∷ []) dirty ≡ leaves Misshapen dirty)
+    -- each list a word too short
+    × (expansion 3 2 two (lists (9 ∷ 9 ∷ []) (9 ∷ 9 ∷ []) (9 ∷ 9 ∷ 9 ∷ 9 ∷ 9 ∷ 9 ∷ []))
+    ≡ leaves Short (lists (9 ∷ 9 ∷ []) (9 ∷ 9 ∷ []) (9 ∷ 9 ∷ 9 ∷ 9 ∷ 9 ∷ 9 ∷ [])))
+    × (expansion 3 2 two (lists (9 ∷ 9 ∷ 9 ∷ []) (9 ∷ []) (9 ∷ 9 ∷ 9 ∷ 9 ∷ 9 ∷ 9 ∷ []))
+    ≡ leaves Short (lists (9 ∷ 9 ∷ 9 ∷ []) (9 ∷ []) (9 ∷ 9 ∷ 9 ∷ 9 ∷ 9 ∷ 9 ∷ [])))
+    × (expansion 3 2 two (lists (9 ∷ 9 ∷ 9 ∷ []) (9 ∷ 9 ∷ []) (9 ∷ 9 ∷ 9 ∷ 9 ∷ 9 ∷ []))
+    ≡ leaves Short (lists (9 ∷ 9 ∷ 9 ∷ []) (9 ∷ 9 ∷ []) (9 ∷ 9 ∷ 9 ∷ 9 ∷ 9 ∷ [])))
+unfolding expansion firstCode
+expansions-pinned = (refl, refl, refl, refl, refl, refl, refl, refl, refl, refl, refl, refl, refl, refl, refl, refl, refl, refl, refl, refl)
+
+-- the circuit of three inputs, next states 8 and 3, those two gates and one output, 14
+abbrev pair : ℕ → ℕ → Pair
+pair a b = record { larger = a; smaller = b }
+
+abbrev circuit : Ordered
+circuit = record { inputs = 3; nexts = (8 ∷ 3 ∷ []); gates = pair 6 2 ∷ pair 3 9 ∷ []; counts = (1 ∷ 0 ∷ 0 ∷ 0 ∷ 0 ∷ []); roots = (14 ∷ []) }
+
+-- what a caller lends of it, with V = 7: the front of each list, whatever stands there
+abbrev lent : Bool → Bool → Bool → Lent
+lent trim hash fold =
+    lentOf (record { top = variable 7; counts = (1 ∷ 0 ∷ 0 ∷ 0 ∷ 0 ∷ []); trim = trim; hash = hash; fold = fold }) (21 ∷ 22 ∷ 23 ∷ []) (31 ∷ 32 ∷ []) (8 ∷
+    3 ∷ []) (41 ∷ 42 ∷ 43 ∷ 44 ∷ 45 ∷ 46 ∷ []) (14 ∷ []) (51 ∷ []) (52 ∷ []) (53 ∷ []) (54 ∷ []) (55 ∷ [])
+
+pub lends-pinned : (trim hash fold : Bool) → Lends circuit trim hash fold dirty (lent trim hash fold)
+lends-pinned trim hash fold = record { circuit = refl; inputs = refl; states = refl; nexts = refl; gates = refl; roots = refl }

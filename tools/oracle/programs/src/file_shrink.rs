@@ -1,0 +1,90 @@
+//! A smaller file on which readers still differ: bytes and whole lines are taken away, and counts made smaller with them, as long as they do.
+
+/// The header's numbers that go down together when a part of the file goes: M with I, L or A; O; B; C; J; F; and none.
+const TOGETHER: [&[usize]; 9] = [&[], &[1, 2], &[1, 3], &[1, 5], &[4], &[6], &[7], &[8], &[9]];
+
+pub fn smallest(mut bytes: Vec<u8>, differ: impl Fn(&[u8]) -> bool) -> Vec<u8> {
+    while let Some(smaller) = candidates(&bytes).into_iter().find(|candidate| differ(candidate)) {
+        bytes = smaller;
+    }
+    bytes
+}
+
+fn candidates(bytes: &[u8]) -> Vec<Vec<u8>> {
+    let mut all = parts_away(bytes);
+    all.extend(TOGETHER.iter().filter_map(|words| counted_down(bytes, words)).flat_map(|fewer| {
+        let mut all = lines_away(&fewer);
+        all.extend(gate_bytes_away(&fewer));
+        all.push(fewer);
+        all
+    }));
+    all.extend(last_count_away(bytes));
+    all.extend(lower_bytes(bytes));
+    // each is smaller: shorter, or as long and before it
+    all.retain(|candidate| (candidate.len(), &candidate[..]) < (bytes.len(), bytes));
+    all
+}
+
+/// Without half of the bytes, a quarter of them, and so on, down to each one.
+fn parts_away(bytes: &[u8]) -> Vec<Vec<u8>> {
+    let mut all = vec![];
+    let mut length = bytes.len() / 2;
+    while length > 0 {
+        for start in (0..=bytes.len() - length).step_by(length) {
+            all.push([&bytes[..start], &bytes[start + length..]].concat());
+        }
+        length /= 2;
+    }
+    all
+}
+
+/// Some numbers of the header one less, where all of them are there and above 0.
+fn counted_down(bytes: &[u8], words: &[usize]) -> Option<Vec<u8>> {
+    let end = bytes.iter().position(|&byte| byte == b'\n')?;
+    let header = std::str::from_utf8(&bytes[..end]).ok()?;
+    let mut parts: Vec<String> = header.split(' ').map(String::from).collect();
+    for &word in words {
+        let less = parts.get(word)?.parse::<u64>().ok()?.checked_sub(1)?;
+        parts[word] = less.to_string();
+    }
+    Some([parts.join(" ").as_bytes(), &bytes[end..]].concat())
+}
+
+/// Without each of the lines behind the header.
+fn lines_away(bytes: &[u8]) -> Vec<Vec<u8>> {
+    let ends: Vec<usize> = (0..bytes.len()).filter(|&at| bytes[at] == b'\n').take(40).collect();
+    ends.windows(2).map(|pair| [&bytes[..=pair[0]], &bytes[pair[1] + 1..]].concat()).collect()
+}
+
+/// Without one to four bytes in a row among the last forty, where the gates are.
+fn gate_bytes_away(bytes: &[u8]) -> Vec<Vec<u8>> {
+    let mut all = vec![];
+    for start in bytes.len().saturating_sub(40)..bytes.len() {
+        for end in start + 1..=bytes.len().min(start + 4) {
+            all.push([&bytes[..start], &bytes[end..]].concat());
+        }
+    }
+    all
+}
+
+/// Without the header's last count.
+fn last_count_away(bytes: &[u8]) -> Option<Vec<u8>> {
+    let end = bytes.iter().position(|&byte| byte == b'\n')?;
+    let space = bytes[..end].iter().rposition(|&byte| byte == b' ')?;
+    Some([&bytes[..space], &bytes[end..]].concat())
+}
+
+/// Each byte a lower one.
+fn lower_bytes(bytes: &[u8]) -> Vec<Vec<u8>> {
+    let mut all = vec![];
+    for at in 0..bytes.len().min(400) {
+        for lower in [0, b'0', bytes[at].wrapping_sub(1)] {
+            if lower < bytes[at] {
+                let mut candidate = bytes.to_vec();
+                candidate[at] = lower;
+                all.push(candidate);
+            }
+        }
+    }
+    all
+}

@@ -1,0 +1,313 @@
+//! Request Q-1, the binary file, read as document 02's words have it and not as the crate's code does. By the other `Rules` it reads as the crate would, were the
+//! lines of docs/DIFFERENCES.md all that sets the two apart: so that those lines can be held to the crate, each by itself.
+
+/// Every count and size of the request is at most this, and so are the roots.
+pub const LIMIT: u64 = 1_048_575;
+
+/// Whose rules a file is read by.
+#[derive(Clone, Copy, PartialEq, Eq, Debug)]
+pub enum Rules {
+    Request,
+    Crate,
+}
+
+/// A line of docs/DIFFERENCES.md: a file is refused by one of the two where the other reads on.
+#[derive(Clone, Copy, PartialEq, Eq, PartialOrd, Ord, Debug)]
+pub enum Line {
+    Top,
+    Outputs,
+    Optional,
+    Size,
+    Above,
+    TooMany,
+    Short,
+    Reset,
+}
+
+impl Line {
+    /// What the line says.
+    pub fn words(self) -> &'static str {
+        match self {
+            Line::Top => "M over 1,048,575 (12)",
+            Line::Outputs => "O over 1,048,575 (12)",
+            Line::Optional => "B, C, J or F over M-I-L, which the crate refuses",
+            Line::Size => "a justice size over 1,048,575 (12)",
+            Line::Above => "M above I+L+A (19)",
+            Line::TooMany => "more than 1,048,575 roots (1)",
+            Line::Short => "a lent list too short (3)",
+            Line::Reset => "a reset that is not 0, 1 or the latch, which the crate refuses",
+        }
+    }
+}
+
+/// A refusal, where it stands, and the line of docs/DIFFERENCES.md where only one of the two gives it.
+#[derive(Clone, Copy, PartialEq, Eq, Debug)]
+pub struct Refused {
+    pub number: u64,
+    pub place: usize,
+    pub line: Option<Line>,
+}
+
+/// An ordered circuit as a file has it.
+#[derive(Clone, Default, PartialEq, Eq, Debug)]
+pub struct Ordered {
+    /// M, the largest variable.
+    pub top: u64,
+    pub inputs: u64,
+    pub nexts: Vec<u64>,
+    pub resets: Vec<u64>,
+    /// Two words a gate, the larger input first.
+    pub gates: Vec<u64>,
+    pub sizes: Vec<u64>,
+    /// How many outputs, bad states, constraints, fairness constraints and justice literals: the walk's order.
+    pub counts: [u64; 5],
+    /// In the walk's order too.
+    pub roots: Vec<u64>,
+}
+
+impl Ordered {
+    /// The eleven words that are answered: the bytes used, M, I, L, A, the five counts, the number of justice sets.
+    pub fn answer(&self, used: usize) -> [u64; 11] {
+        let [o, b, c, f, j] = self.counts;
+        let [latches, gates, sets] = [self.nexts.len(), self.gates.len() / 2, self.sizes.len()].map(|length| length as u64);
+        [used as u64, self.top, self.inputs, latches, gates, o, b, c, f, j, sets]
+    }
+
+    /// The lists that are lent, as they are filled.
+    pub fn lists(&self) -> [&[u64]; 4] {
+        [&self.nexts, &self.gates, &self.sizes, &self.roots]
+    }
+}
+
+/// What a file is read as, and how many of its bytes that takes.
+pub type Reading = Result<(Ordered, usize), Refused>;
+
+/// How many words of next states, gates, sizes and roots are lent.
+pub type Room = [usize; 4];
+
+/// Room for whatever a file may hold.
+pub const AMPLE: Room = [usize::MAX; 4];
+
+/// The counts of the first line.
+struct Header {
+    top: u64,
+    inputs: u64,
+    latches: u64,
+    outputs: u64,
+    gates: u64,
+    bad: u64,
+    constraints: u64,
+    justice: u64,
+    fairness: u64,
+}
+
+/// A place in the bytes.
+struct Reader<'a> {
+    bytes: &'a [u8],
+    place: usize,
+    rules: Rules,
+}
+
+type Part<T> = Result<T, Refused>;
+
+impl Reader<'_> {
+    fn refuse<T>(&self, number: u64, line: Option<Line>) -> Part<T> {
+        Err(Refused { number, place: self.place, line })
+    }
+
+    fn stands(&self, byte: u8) -> bool {
+        self.bytes.get(self.place) == Some(&byte)
+    }
+
+    /// A space or a newline that has to stand here.
+    fn byte(&mut self, byte: u8) -> Part<()> {
+        if !self.stands(byte) {
+            return self.refuse(18, None);
+        }
+        self.place += 1;
+        Ok(())
+    }
+
+    /// A decimal number: the limit of the request, that of the crate, and the line that tells of it where they are not the same.
+    fn number(&mut self, request: u64, by_crate: u64, line: Option<Line>) -> Part<u64> {
+        let rest = &self.bytes[self.place..];
+        let length = rest.iter().take_while(|byte| byte.is_ascii_digit()).count();
+        if length == 0 {
+            return self.refuse(10, None);
+        }
+        if length > 1 && rest[0] == b'0' {
+            return self.refuse(11, None);
+        }
+        let (limit, other) = match self.rules {
+            Rules::Request => (request, by_crate),
+            Rules::Crate => (by_crate, request),
+        };
+        match std::str::from_utf8(&rest[..length]).unwrap().parse::<u64>() {
+            Ok(value) if value <= limit => {
+                self.place += length;
+                Ok(value)
+            }
+            Ok(value) if value <= other => self.refuse(12, line),
+            _ => self.refuse(12, None),
+        }
+    }
+
+    /// A number in the header behind a space.
+    fn count(&mut self, request: u64, by_crate: u64, line: Option<Line>) -> Part<u64> {
+        self.byte(b' ')?;
+        self.number(request, by_crate, line)
+    }
+
+    /// Lines with a literal each.
+    fn literals(&mut self, count: u64, largest: u64) -> Part<Vec<u64>> {
+        let mut literals = vec![];
+        for _ in 0..count {
+            literals.push(self.number(largest, largest, None)?);
+            self.byte(b'\n')?;
+        }
+        Ok(literals)
+    }
+
+    fn header(&mut self) -> Part<Header> {
+        if !self.bytes.starts_with(b"aig") {
+            return self.refuse(18, None);
+        }
+        self.place = 3;
+        let top = self.count(LIMIT, (1 << 31) - 1, Some(Line::Top))?;
+        let inputs = self.count(top, top, None)?;
+        let latches = self.count(top - inputs, top - inputs, None)?;
+        let outputs = self.count(LIMIT, u64::MAX, Some(Line::Outputs))?;
+        let left = top - inputs - latches;
+        let gates = self.count(left, left, None)?;
+        let mut optional = [0; 4];
+        for count in &mut optional {
+            if self.stands(b' ') {
+                *count = self.count(LIMIT, left, Some(Line::Optional))?;
+            }
+        }
+        self.byte(b'\n')?;
+        let [bad, constraints, justice, fairness] = optional;
+        Ok(Header { top, inputs, latches, outputs, gates, bad, constraints, justice, fairness })
+    }
+
+    /// Right after the header: 19, then 3 for any short list but the roots'.
+    fn fits(&self, header: &Header, room: Room) -> Part<()> {
+        if self.rules == Rules::Crate {
+            return Ok(());
+        }
+        if header.top > header.inputs + header.latches + header.gates {
+            return self.refuse(19, Some(Line::Above));
+        }
+        let needed = [header.latches, 2 * header.gates, header.justice];
+        match needed.iter().zip(room).any(|(&words, lent)| words > lent as u64) {
+            true => self.refuse(3, Some(Line::Short)),
+            false => Ok(()),
+        }
+    }
+
+    /// A latch's next state and its reset, 0 where there is none.
+    fn latch(&mut self, largest: u64, own: u64) -> Part<(u64, u64)> {
+        let next = self.number(largest, largest, None)?;
+        if !self.stands(b' ') {
+            self.byte(b'\n')?;
+            return Ok((next, 0));
+        }
+        self.place += 1;
+        let field = self.place;
+        let reset = self.number(largest, largest, None)?;
+        if self.rules == Rules::Crate && reset > 1 && reset != own {
+            self.place = field;
+            return self.refuse(22, Some(Line::Reset));
+        }
+        self.byte(b'\n')?;
+        Ok((next, reset))
+    }
+
+    fn sizes(&mut self, count: u64) -> Part<Vec<u64>> {
+        let (mut sizes, mut left) = (vec![], u64::MAX);
+        for _ in 0..count {
+            let size = self.number(LIMIT, left, Some(Line::Size))?;
+            self.byte(b'\n')?;
+            sizes.push(size);
+            left -= size;
+        }
+        Ok(sizes)
+    }
+
+    /// Where the sizes end: 1 for the number of roots, then 3 for a short root list.
+    fn roots_fit(&self, roots: u128, room: Room) -> Part<()> {
+        match self.rules {
+            Rules::Crate => Ok(()),
+            Rules::Request if roots > LIMIT as u128 => self.refuse(1, Some(Line::TooMany)),
+            Rules::Request if roots > room[3] as u128 => self.refuse(3, Some(Line::Short)),
+            Rules::Request => Ok(()),
+        }
+    }
+
+    /// The code that stands by a delta below its reference.
+    fn delta(&mut self, reference: u64) -> Part<u64> {
+        let mut value = 0;
+        for index in 0..8 {
+            let Some(&byte) = self.bytes.get(self.place + index) else {
+                return self.refuse(15, None);
+            };
+            value += (byte as u64 % 128) << (7 * index);
+            if byte < 128 {
+                if value > reference {
+                    return self.refuse(17, None);
+                }
+                self.place += index + 1;
+                return Ok(reference - value);
+            }
+        }
+        self.refuse(16, None)
+    }
+
+    fn file(&mut self, room: Room) -> Part<Ordered> {
+        let header = self.header()?;
+        self.fits(&header, room)?;
+        let Header { top, inputs, latches, outputs, gates, bad, constraints, justice, fairness } = header;
+        let largest = 2 * top + 1;
+        let mut circuit = Ordered { top, inputs, ..Ordered::default() };
+        for index in 0..latches {
+            let (next, reset) = self.latch(largest, 2 * (inputs + 1 + index))?;
+            circuit.nexts.push(next);
+            circuit.resets.push(reset);
+        }
+        for count in [outputs, bad, constraints] {
+            circuit.roots.extend(self.literals(count, largest)?);
+        }
+        circuit.sizes = self.sizes(justice)?;
+        let literals: u64 = circuit.sizes.iter().sum();
+        circuit.counts = [outputs, bad, constraints, fairness, literals];
+        self.roots_fit(circuit.counts.iter().map(|&count| count as u128).sum(), room)?;
+        let justice = self.literals(literals, largest)?;
+        circuit.roots.extend(self.literals(fairness, largest)?);
+        circuit.roots.extend(justice);
+        for index in 0..gates {
+            let first = self.delta(2 * (inputs + latches + 1 + index))?;
+            let second = self.delta(first)?;
+            circuit.gates.extend([first, second]);
+        }
+        Ok(circuit)
+    }
+}
+
+/// Reads a file.
+pub fn read(bytes: &[u8], room: Room, rules: Rules) -> Reading {
+    let mut reader = Reader { bytes, place: 0, rules };
+    let circuit = reader.file(room)?;
+    Ok((circuit, reader.place))
+}
+
+/// How many words of each list a file asks for, as far as its numbers can be read.
+pub fn needed(bytes: &[u8]) -> Room {
+    let mut reader = Reader { bytes, place: 0, rules: Rules::Request };
+    let Ok(header) = reader.header() else { return [0; 4] };
+    let Header { latches, outputs, gates, bad, constraints, justice, fairness, .. } = header;
+    let roots = match read(bytes, AMPLE, Rules::Request) {
+        Ok((circuit, _)) => circuit.roots.len() as u64,
+        Err(_) => outputs + bad + constraints + fairness,
+    };
+    [latches, 2 * gates, justice, roots].map(|words| words as usize)
+}
