@@ -1,11 +1,9 @@
--- Ordered circuits within the limits, and what it is that one keeps the values of another. Assumes nothing.
+-- Ordered circuits within the limits whose gates are in order, and what it is that one keeps the values of another. Assumes nothing.
 use Prim.Native.Nat.{ℕ, _+_, _*_, _≤_, _<_}
 use mathlib.Core.Path.{_≡_}
 use mathlib.Core.Bool.{Bool}
-use mathlib.Core.List.{List}
 use lib.ListN.{length, getD}
-use Rattle.circuit.specs.Walk.{Pair, firstCode}
-use Rattle.circuit.specs.Ordered.{Ordered, sourcesOf, orderedGraph, noPair}
+use Rattle.circuit.specs.Ordered.{Ordered, sourcesOf, orderedGraph, InOrder}
 use Rattle.circuit.specs.Outcome.{limit, total}
 use Rattle.circuit.specs.Claims.{AllWithin, SameValue}
 
@@ -13,19 +11,15 @@ use Rattle.circuit.specs.Claims.{AllWithin, SameValue}
 abbrev pub variablesOf : Ordered → ℕ
 variablesOf O = sourcesOf O + length (O .gates)
 
--- where there are n sources: each gate's larger input is at most the gate's code, and the smaller not above it
-abbrev pub Falling : ℕ → List Pair → Type 0
-Falling n gates =
-    (j : ℕ) → j < length gates → (getD gates j noPair .smaller ≤ getD gates j noPair .larger) × (getD gates j noPair .larger ≤ firstCode n + 2 * j)
-
--- V and R within the limit, counts that sum to the roots, no next state or root over 2V + 1, and no gate's input over the gate's own code
-pub record Limited (O : Ordered) : Type 0 where
+-- an ordered circuit within the limits whose gates are in order: V and R within the limit, counts that sum to the roots, no next state or root over
+-- 2V + 1, and each gate's code exceeds its first input, which is not below its second
+pub record WellOrdered (O : Ordered) : Type 0 where
   pub variables : variablesOf O ≤ limit
   pub few : length (O .roots) ≤ limit
   pub counts : total (O .counts) ≡ length (O .roots)
   pub nexts : AllWithin (2 * variablesOf O + 1) (O .nexts)
   pub roots : AllWithin (2 * variablesOf O + 1) (O .roots)
-  pub gates : Falling (sourcesOf O) (O .gates)
+  pub gates : InOrder (sourcesOf O) (O .gates)
 
 -- D has as many next states and roots as O, and each has under every setting of inputs and latches the value of the one at its place in O
 pub record Keeps (O D : Ordered) : Type 0 where
