@@ -13,7 +13,7 @@ use Rattle.circuit.specs.Outcome.{Lent, lentOf, total, held}
 use Rattle.lines.specs.declared.Fault.{Fault}
 use Rattle.lines.specs.Reading.{got, no}
 use Rattle.ordered.specs.Expand as E
-use Rattle.ordered.specs.WellOrdered.{Keeps}
+use Rattle.ordered.specs.Keeps.{Keeps}
 use Rattle.binary.specs.declared.FileRead.{FileRead}
 use Rattle.binary.specs.File.{File, readFile}
 use Rattle.binary.specs.Promise.{Lists, roomOf, Outcome, left, outcome}

@@ -24,7 +24,8 @@ use Rattle.circuit.proofs.Listed.{walked-exactly}
 use Rattle.circuit.proofs.Ordered.{countFrom-length, gatesFrom-place, ordered-once, ordered-grounded}
 use Rattle.ordered.specs.declared.Expansion.the-variants.{Expanded}
 use Rattle.ordered.specs.Expand.{Lists, Outcome, expansion, Lends}
-use Rattle.ordered.specs.WellOrdered.{variablesOf, WellOrdered, Keeps}
+use Rattle.ordered.specs.WellOrdered.{variablesOf, WellOrdered}
+use Rattle.ordered.specs.Keeps.{Keeps}
 use Rattle.ordered.proofs.Laid.{laid-length, words-length}
 use Rattle.ordered.proofs.Expansions.{all-filled, expanded-words, expanded-given}
 
@@ -97,6 +98,21 @@ module _ (O : Ordered) (k : WellOrdered O) (trim hash fold : Bool) where
         let counts : total (l .circuit .counts) ≡ total (O .counts) = ap (λ (x : Circuit). total (x .counts)) same in
         let roots : length (l .roots) ≡ length (O .roots) = ap length (lends .roots) in
         record { roots = omega (arith, k .counts); latches = omega arith; words = omega arith }
+
+    -- the lists to be written are long enough where they are so for O
+    pub roomy : variablesOf O + 1 ≤ length (l .map) → length (O .nexts) ≤ length (l .nextImages) → length (O .roots) ≤ length (l .rootImages)
+        → 2 * length (O .gates) ≤ length (l .gatesOut) → 3 * variablesOf O + 3 + 3 * length (O .gates) ≤ length (l .scratch) → Roomy l (circuitOf l)
+    unfolding given
+    roomy map nexts roots gates scratch =
+        let many = gates-length (firstCode (sourcesOf O)) (O .gates) in
+        subst⁻¹ (Roomy l) same
+        (record {
+          map = map;
+          nexts = omega (arith, countFrom-length (2 + 2 * O .inputs) (length (O .nexts)));
+          roots = roots;
+          gates = omega (arith, many);
+          scratch = omega (arith, many);
+        })
 
     -- checks 1 to 4 are passed where the lists to be written are long enough
     pub passes : Roomy l (circuitOf l) → Passes l

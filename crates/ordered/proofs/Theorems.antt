@@ -15,7 +15,8 @@ use Rattle.circuit.specs.Outcome as C
 use Rattle.circuit.specs.Outcome.{Lent, circuitOf, total, pairWords, held}
 use Rattle.circuit.specs.Claims.{Within, Roomy, Bounded, Passes, AllGrounded}
 use Rattle.circuit.proofs.Ordered.{countFrom-length}
-use Rattle.ordered.specs.WellOrdered.{WellOrdered, Keeps}
+use Rattle.ordered.specs.WellOrdered.{variablesOf, WellOrdered}
+use Rattle.ordered.specs.Keeps.{Keeps}
 use Rattle.ordered.proofs.Passing as passing
 use Rattle.ordered.specs.declared.Expansion.the-variants.{Expanded}
 use Rattle.ordered.specs.Expand.{Lists, Outcome, expansion, Lends}
@@ -58,6 +59,11 @@ fills = passing.fills
 module _ (O : Ordered) (ordered : WellOrdered O) (trim hash fold : Bool) (lists : Lists) (o : Outcome)
     (left : o ≡ expansion (O .inputs) (length (O .nexts)) (pairWords (O .gates)) lists) (filled : o .answer ≡ Expanded) (l : Lent)
     (lends : Lends O trim hash fold (o .lists) l) where
+  -- lists to be written that are long enough for the ordered circuit are long enough for what is lent
+  pub long-enough : variablesOf O + 1 ≤ length (l .map) → length (O .nexts) ≤ length (l .nextImages) → length (O .roots) ≤ length (l .rootImages)
+      → 2 * length (O .gates) ≤ length (l .gatesOut) → 3 * variablesOf O + 3 + 3 * length (O .gates) ≤ length (l .scratch) → Roomy l (circuitOf l)
+  long-enough = passing.roomy O ordered trim hash fold lists o left filled l lends
+
   -- lent with lists that are long enough to be written, it passes checks 1 to 4
   pub lent-passes : Roomy l (circuitOf l) → Passes l
   lent-passes = passing.passes O ordered trim hash fold lists o left filled l lends

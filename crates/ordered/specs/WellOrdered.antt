@@ -1,11 +1,10 @@
--- Ordered circuits within the limits whose gates are in order, and what it is that one keeps the values of another. Assumes nothing.
-use Prim.Native.Nat.{ℕ, _+_, _*_, _≤_, _<_}
+-- Ordered circuits within the limits whose gates are in order. Assumes nothing.
+use Prim.Native.Nat.{ℕ, _+_, _*_, _≤_}
 use mathlib.Core.Path.{_≡_}
-use mathlib.Core.Bool.{Bool}
-use lib.ListN.{length, getD}
-use Rattle.circuit.specs.Ordered.{Ordered, sourcesOf, orderedGraph, InOrder}
+use lib.ListN.{length}
+use Rattle.circuit.specs.Ordered.{Ordered, sourcesOf, InOrder}
 use Rattle.circuit.specs.Outcome.{limit, total}
-use Rattle.circuit.specs.Claims.{AllWithin, SameValue}
+use Rattle.circuit.specs.Claims.{AllWithin}
 
 -- V: a variable for each input, latch and gate
 abbrev pub variablesOf : Ordered → ℕ
@@ -20,12 +19,3 @@ pub record WellOrdered (O : Ordered) : Type 0 where
   pub nexts : AllWithin (2 * variablesOf O + 1) (O .nexts)
   pub roots : AllWithin (2 * variablesOf O + 1) (O .roots)
   pub gates : InOrder (sourcesOf O) (O .gates)
-
--- D has as many next states and roots as O, and each has under every setting of inputs and latches the value of the one at its place in O
-pub record Keeps (O D : Ordered) : Type 0 where
-  pub latches : length (D .nexts) ≡ length (O .nexts)
-  pub rootCount : length (D .roots) ≡ length (O .roots)
-  pub nexts : (given : ℕ → Bool) (j : ℕ) → j < length (O .nexts)
-      → SameValue (orderedGraph O) (orderedGraph D) given (getD (O .nexts) j 0) (getD (D .nexts) j 0)
-  pub roots : (given : ℕ → Bool) (j : ℕ) → j < length (O .roots)
-      → SameValue (orderedGraph O) (orderedGraph D) given (getD (O .roots) j 0) (getD (D .roots) j 0)
