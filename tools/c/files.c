@@ -105,8 +105,8 @@ static const struct row { const char *file; size_t length; uint32_t number; uint
     {FILE_OF("aig 3 2 0 1 1\n6\n\0\7"), 17, 17},
     {FILE_OF("aig 3 2 0 1 1\n6\n\2\2junk"), 0, 18},
     {FILE_OF("aig 3 2 0 1 1\n8\n\2\2"), 12, 14},
-    /* and of a delta that goes on for too long, alone and after a first delta of zero, which the table has not; of a zero in eight bytes, with a second delta that
-     * is cut or over, in both deltas, in the second alone, and in the second gate */
+    /* and of a delta that goes on for too long, alone and after a first delta of zero, which the table has not; of a zero in eight bytes, with a second
+     * delta that is cut or over, in both deltas, in the second alone, and in the second gate */
     {FILE_OF("aig 3 2 0 1 1\n6\n\200\200\200\200\200\200\200\200\0\0"), 16, 16},
     {FILE_OF("aig 3 2 0 1 1\n6\n\0\200\200\200\200\200\200\200\200\0"), 16, 17},
     {FILE_OF("aig 3 2 0 1 1\n6\n\200\200\200\200\200\200\200\0\2"), 20, 16},

@@ -107,8 +107,8 @@ fn gate(random: &mut Random, bytes: &mut Vec<u8>, output: u64) {
     }
 }
 
-/// A first delta of zero in one of the gates, in one byte or in more. The second delta stays, and is read from the gate's own code; or it is any number, too long, or
-/// cut, where the file ends.
+/// A first delta of zero in one of the gates, in one byte or in more. The second delta stays, and is read from the gate's own code; or it is any number, too
+/// long, or cut, where the file ends.
 fn zero_delta(random: &mut Random, parts: &mut Parts) {
     let gates = &mut parts.gates;
     let mut starts = vec![0];

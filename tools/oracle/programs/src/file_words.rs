@@ -1,5 +1,5 @@
-//! Requests, the binary file, read as document 02's words have it and not as the crate's code does. By the other `Rules` it reads as the crate would, were the
-//! lines of docs/DIFFERENCES.md all that sets the two apart: so that those lines can be held to the crate, each by itself.
+//! Requests, the binary file, read as document 02's words have it and not as the crate's code does. By the other `Rules` it reads as the crate
+//! would, were the lines of docs/DIFFERENCES.md all that sets the two apart: so that those lines can be held to the crate, each by itself.
 
 /// Every count and size of the request is at most this, and so are the roots.
 pub const LIMIT: u64 = 1_048_575;

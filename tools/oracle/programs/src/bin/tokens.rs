@@ -1,5 +1,5 @@
-//! The judge's answers to questions about tokens, one a line; `token_line` gives both forms. They are the crate's, and request Q-2's for a pair whose first delta is
-//! zero, which docs/DIFFERENCES.md has a line for.
+//! The judge's answers to questions about tokens, one a line; `token_line` gives both forms. They are the crate's, and
+//! request Q-2's for a pair whose first delta is zero, which docs/DIFFERENCES.md has a line for.
 //!
 //!     tokens < questions
 use judge::token_line::{documented, Question};
