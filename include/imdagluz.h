@@ -231,6 +231,7 @@ uint32_t imdagluz_read_aig(const uint8_t *bytes, size_t length,
  *   state_codes  2(I+1), 2(I+2), .., 2(I+L)
  *   triples      of gate k, counted from 0, its output 2(I+L+1+k) and its two inputs in their order.
  * With I+L+G for the largest variable, and next states, root counts and roots as imdagluz_read_aig gave them, they are a circuit for imdagluz_renumber.
+ * A file that was taken always renumbers: with those and lists that are long enough imdagluz_renumber succeeds, under every setting of the flags.
  *
  * Or answers a refusal, the first of these that applies, and writes nothing:
  *   1  I, L, G or I+L+G is over 1,048,575, G being gates_length/2 rounded down
