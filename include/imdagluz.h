@@ -17,10 +17,10 @@
 #include <stdint.h>
 
 /* The version of this header and of the archive that belongs to it. */
-#define IMDAGLUZ_VERSION "0.1.1"
+#define IMDAGLUZ_VERSION "0.2.0"
 #define IMDAGLUZ_VERSION_MAJOR 0
-#define IMDAGLUZ_VERSION_MINOR 1
-#define IMDAGLUZ_VERSION_PATCH 1
+#define IMDAGLUZ_VERSION_MINOR 2
+#define IMDAGLUZ_VERSION_PATCH 0
 
 #ifdef __cplusplus
 extern "C" {
@@ -29,7 +29,7 @@ extern "C" {
 /* The largest V, I, L, G and R, and so the most words that a list of codes has: lists of this length, gates of pairs twice it, hold every circuit. */
 #define IMDAGLUZ_LIST 1048575
 
-/* Refusal numbers. 0 is success. imdagluz_delta gives 3 and 15 to 17, imdagluz_renumber 1 to 8, imdagluz_read_aig 1, 3, 10 to 12 and 15 to 19,
+/* Refusal numbers. 0 is success. imdagluz_delta gives 3 and 15 to 17, imdagluz_renumber 1 to 8, imdagluz_read_aig 1, 3, 10 to 12 and 15 to 20,
  * imdagluz_expand 1 to 3. No function here gives 13 or 14, which are for a literal that a text file assigns. */
 enum {
     IMDAGLUZ_TOO_BIG = 1,         /* V, I, L, G or R is over 1,048,575 */
@@ -48,11 +48,13 @@ enum {
     IMDAGLUZ_DELTA_TOO_LONG = 16, /* the delta's eighth byte has its top bit set */
     IMDAGLUZ_DELTA_OVER = 17,     /* the delta is over its reference */
     IMDAGLUZ_MISSING = 18,        /* the tag, a space or a newline is missing */
-    IMDAGLUZ_UNDEFINED_TOP = 19   /* M is above I+L+A: a variable that the header counts has no definition */
+    IMDAGLUZ_UNDEFINED_TOP = 19,  /* M is above I+L+A: a variable that the header counts has no definition */
+    IMDAGLUZ_ZERO_DELTA = 20      /* a gate's first delta is zero: the gate would be its own first input */
 };
 
 /* Reads one delta of a binary AIGER file: groups of seven bits, the lowest first, one to a byte, the top bit set on all but the last;
- * at most eight bytes, and redundant zero groups are accepted.
+ * at most eight bytes, and redundant zero groups are accepted. A delta of zero is read as any other: refusal 20 is given for a gate's two deltas, by
+ * imdagluz_read_aig.
  *
  *   bytes, length  the bytes, which are only read
  *   place          where the delta begins; any number: a place at or past the end reads as the end, so it is refusal 15
@@ -177,8 +179,8 @@ uint32_t imdagluz_renumber(uint32_t top, const uint32_t *counts, size_t counts_l
  *           outputs, bad states, constraints, fairness and justice literals, in this order; they add up to R, at most 1,048,575. 10: J, the number of
  *           justice sets
  *   nexts   the next states of the latches, in their order
- *   gates   of each gate the larger and then the smaller input: its code less the first delta, and that less the second. A first delta of 0 is taken, and
- *           gives a gate that needs itself: imdagluz_renumber refuses that with 8 where it walks the gate
+ *   gates   of each gate the larger and then the smaller input: its code less the first delta, and that less the second. The code is above both; the
+ *           two may be equal
  *   sizes   how many literals each justice set has; they add up to answer[9]
  *   roots   outputs, bad states, constraints, fairness, justice, in this order, which is that of imdagluz_renumber: the file has justice before fairness.
  * Words past those named stay as they were. imdagluz_expand makes the lists that imdagluz_renumber takes.
@@ -202,7 +204,8 @@ uint32_t imdagluz_renumber(uint32_t top, const uint32_t *counts, size_t counts_l
  *   1   R is over 1,048,575, the sizes included
  *   3   roots is shorter than R
  * In the gates:
- *   15, 16, 17  of a delta, as imdagluz_delta has them, at its first byte.
+ *   15, 16, 17  of a delta, as imdagluz_delta has them, at its first byte
+ *   20  a gate's first delta is zero, in however many bytes, and its second one was read without 15, 16 or 17: the first byte of the first one.
  * A refusal, but for that of a short answer list, leaves every word of nexts, gates, sizes and roots 0, however long the list: 3 for a short list too.
  *
  * Time: in proportion to the bytes that are read; a refusal's in proportion to the lists too, which it clears. */
@@ -228,6 +231,7 @@ uint32_t imdagluz_read_aig(const uint8_t *bytes, size_t length,
  *   state_codes  2(I+1), 2(I+2), .., 2(I+L)
  *   triples      of gate k, counted from 0, its output 2(I+L+1+k) and its two inputs in their order.
  * With I+L+G for the largest variable, and next states, root counts and roots as imdagluz_read_aig gave them, they are a circuit for imdagluz_renumber.
+ * A file that was taken always renumbers: with those and lists that are long enough imdagluz_renumber succeeds, under every setting of the flags.
  *
  * Or answers a refusal, the first of these that applies, and writes nothing:
  *   1  I, L, G or I+L+G is over 1,048,575, G being gates_length/2 rounded down

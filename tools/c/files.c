@@ -99,14 +99,22 @@ static const struct row { const char *file; size_t length; uint32_t number; uint
     {FILE_OF("aig 2 1 1 0 0\n2 6\n"), 12, 16},
     {FILE_OF("aig 2 1 1 0 0\n2 3"), 18, 17},
     {FILE_OF("aig 2 1 1 0 0\n2 \n"), 10, 16},
-    {FILE_OF("aig 3 2 0 1 1\n6\n\0\2"), 0, 18},
-    {FILE_OF("aig 3 2 0 1 1\n6\n\200\0\2"), 0, 19},
+    {FILE_OF("aig 3 2 0 1 1\n6\n\0\2"), 20, 16},
+    {FILE_OF("aig 3 2 0 1 1\n6\n\200\0\2"), 20, 16},
     {FILE_OF("aig 3 2 0 1 1\n6\n\0"), 15, 17},
     {FILE_OF("aig 3 2 0 1 1\n6\n\0\7"), 17, 17},
     {FILE_OF("aig 3 2 0 1 1\n6\n\2\2junk"), 0, 18},
     {FILE_OF("aig 3 2 0 1 1\n8\n\2\2"), 12, 14},
-    /* and of a delta that goes on for too long, which the table has not */
+    /* and of a delta that goes on for too long, alone and after a first delta of zero, which the table has not; of a zero in eight bytes, with a second
+     * delta that is cut or over, in both deltas, in the second alone, and in the second gate */
     {FILE_OF("aig 3 2 0 1 1\n6\n\200\200\200\200\200\200\200\200\0\0"), 16, 16},
+    {FILE_OF("aig 3 2 0 1 1\n6\n\0\200\200\200\200\200\200\200\200\0"), 16, 17},
+    {FILE_OF("aig 3 2 0 1 1\n6\n\200\200\200\200\200\200\200\0\2"), 20, 16},
+    {FILE_OF("aig 3 2 0 1 1\n6\n\200\0\200"), 15, 18},
+    {FILE_OF("aig 3 2 0 1 1\n6\n\200\0\7"), 17, 18},
+    {FILE_OF("aig 3 2 0 1 1\n6\n\0\0"), 20, 16},
+    {FILE_OF("aig 3 2 0 1 1\n6\n\2\0"), 0, 18},
+    {FILE_OF("aig 4 2 0 1 2\n6\n\2\2\0\2"), 20, 18},
 };
 enum { ROWS = sizeof table / sizeof table[0] };
 

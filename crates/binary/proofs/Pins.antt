@@ -3,13 +3,17 @@
 -- refused file's lists to be 0. By computation. Assumes nothing.
 use Prim.Native.Nat.{ℕ}
 use mathlib.Core.Path.{_≡_, refl}
+use mathlib.Core.Bool.{true, false}
 use mathlib.Core.List.{List, [], _∷_}
 use native.Mathlib.Omega.{arith}
+use lib.ListN.{replicate}
 use Rattle.token.specs.Format.{digitsOf}
 use Rattle.token.specs.Answer.{digitsAt, uintAt, goOnAt, binaryAt, deltaAt, headerFieldAt, pairAt}
-use Rattle.token.specs.declared.Reason.the-variants.{NoDigit, LeadingZero, OverLimit, Cut, TooLong, OverReference}
+use Rattle.token.specs.declared.Reason.the-variants.{NoDigit, LeadingZero, OverLimit, Cut, TooLong, OverReference, ZeroDelta}
 use Rattle.token.specs.declared.PairToken.the-variants.{Inputs, PairRefused}
+use Rattle.lit.specs.Code.{variable}
 use Rattle.circuit.specs.Walk.{Pair, firstCode}
+use Rattle.circuit.specs.Outcome.{lentOf}
 use Rattle.lines.specs.declared.Fault.{Fault}
 use Rattle.lines.specs.declared.Fault.the-variants.{Number, Missing, Above, TooMany, Short}
 use Rattle.lines.specs.declared.Header.{Header}
@@ -20,10 +24,12 @@ use Rattle.lines.specs.declared.Reading.the-variants.{Is, Not}
 use Rattle.lines.specs.Reading.{got, no}
 use Rattle.lines.specs.Lines.{isByte, byteAt, tagAt, numberAt, lineAt, linesAt, resetAt, latchAt, latchesAt}
 use Rattle.lines.specs.Sections.{rootsOf, countAt, othersAt, countsAt, headerAt, rootRoomAt, propertiesAt, sizesAt, rootsAt}
+use Rattle.ordered.specs.Expand.{expansion}
 use Rattle.binary.specs.declared.FileAnswer.{FileAnswer}
 use Rattle.binary.specs.declared.FileAnswer.the-variants.{Taken, Refused}
 use Rattle.binary.specs.File.{tag, gateOf, gateAt, gatesAt, File, Room, roomFor, countsOf, fileWith, sizedAt, listsAt, bodyAt, readFile}
 use Rattle.binary.specs.Promise.{StoresGates, Lists, listsOf, roomOf, written, cleared, StoresFile, answered, Outcome, seen, left, outcome, Roomy}
+use Rattle.binary.specs.Way.{Lending, handedFrom, Enough}
 
 -- 1. Gates.
 
@@ -205,6 +211,49 @@ pub outcomes-pinned :
     × (outcome (97 ∷ 105 ∷ 103 ∷ 32 ∷ 51 ∷ 32 ∷ 50 ∷ 32 ∷ 48 ∷ 32 ∷ 49 ∷ 32 ∷ 49 ∷ 10 ∷ 54 ∷ 10 ∷ 128 ∷ 128 ∷ 128 ∷ 128 ∷ 128 ∷ 128 ∷ 128 ∷ 128 ∷ 0 ∷
     []) dirty ≡ refused (Number TooLong) 16 clean)
     × (outcome (97 ∷ 105 ∷ 103 ∷ 32 ∷ 51 ∷ 32 ∷ 50 ∷ 32 ∷ 48 ∷ 32 ∷ 49 ∷ 32 ∷ 49 ∷ 10 ∷ 54 ∷ 10 ∷ 0 ∷ 7 ∷ []) dirty ≡ refused (Number OverReference) 17 clean)
+    -- aig 4 2 0 0 2\n and a second gate whose first delta is zero, by one byte and by two
+    × (outcome (97 ∷ 105 ∷ 103 ∷ 32 ∷ 52 ∷ 32 ∷ 50 ∷ 32 ∷ 48 ∷ 32 ∷ 48 ∷ 32 ∷ 50 ∷ 10 ∷ 2 ∷ 2 ∷ 0 ∷ 2 ∷ []) dirty ≡ refused (Number ZeroDelta) 16 clean)
+    × (outcome (97 ∷ 105 ∷ 103 ∷ 32 ∷ 52 ∷ 32 ∷ 50 ∷ 32 ∷ 48 ∷ 32 ∷ 48 ∷ 32 ∷ 50 ∷ 10 ∷ 2 ∷ 2 ∷ 128 ∷ 0 ∷ 2 ∷ []) dirty ≡ refused (Number ZeroDelta) 16 clean)
 unfolding digitsOf digitsAt uintAt goOnAt binaryAt deltaAt headerFieldAt pairAt firstCode isByte byteAt tagAt numberAt lineAt linesAt resetAt latchAt
     latchesAt countAt othersAt countsAt headerAt rootRoomAt propertiesAt sizesAt rootsAt gateAt gatesAt sizedAt listsAt bodyAt readFile
-outcomes-pinned = (refl, refl, refl, refl, refl, refl, refl, refl, refl, refl, refl, refl, refl, refl, refl, refl)
+outcomes-pinned = (refl, refl, refl, refl, refl, refl, refl, refl, refl, refl, refl, refl, refl, refl, refl, refl, refl, refl)
+
+-- 6. The way from bytes to renumbering, into lists that are just long enough behind the file's.
+
+abbrev lending : Lending
+lending =
+    record {
+      file = dirty;
+      codes = record { inputs = 51 ∷ 52 ∷ []; states = 53 ∷ []; triples = 61 ∷ 62 ∷ 63 ∷ 64 ∷ 65 ∷ 66 ∷ 67 ∷ 68 ∷ 69 ∷ [] };
+      map = 71 ∷ 72 ∷ 73 ∷ 74 ∷ 75 ∷ 76 ∷ 77 ∷ [];
+      nextImages = 78 ∷ [];
+      rootImages = 81 ∷ 82 ∷ 83 ∷ 84 ∷ 85 ∷ 86 ∷ 87 ∷ 88 ∷ [];
+      gatesOut = 91 ∷ 92 ∷ 93 ∷ 94 ∷ 95 ∷ 96 ∷ [];
+      scratch = replicate 30 99;
+      trim = true;
+      hash = false;
+      fold = true;
+    }
+
+-- what is lent has V = 6, the file's counts, the flags, inputs 2 and 4, the latch 6 with its next state, three gates, eight roots
+pub way-pinned :
+    (handedFrom small lending
+    ≡ lentOf (record { top = variable 6; counts = 2 ∷ 1 ∷ 1 ∷ 1 ∷ 3 ∷ []; trim = true; hash = false; fold = true }) (2 ∷ 4 ∷ []) (6 ∷ []) (8 ∷ [])
+    (8 ∷ 6 ∷ 2 ∷ 10 ∷ 8 ∷ 3 ∷ 12 ∷ 10 ∷ 9 ∷ []) (12 ∷ 13 ∷ 9 ∷ 3 ∷ 7 ∷ 6 ∷ 11 ∷ 5 ∷ []) (71 ∷ 72 ∷ 73 ∷ 74 ∷ 75 ∷ 76 ∷ 77 ∷ []) (78 ∷ [])
+    (81 ∷ 82 ∷ 83 ∷ 84 ∷ 85 ∷ 86 ∷ 87 ∷ 88 ∷ []) (91 ∷ 92 ∷ 93 ∷ 94 ∷ 95 ∷ 96 ∷ []) (replicate 30 99))
+    × Enough (outcome small dirty .read) lending
+unfolding digitsOf digitsAt uintAt goOnAt binaryAt deltaAt headerFieldAt pairAt firstCode isByte byteAt tagAt numberAt lineAt linesAt resetAt latchAt
+    latchesAt countAt othersAt countsAt headerAt rootRoomAt propertiesAt sizesAt rootsAt gateAt gatesAt sizedAt listsAt bodyAt readFile expansion
+way-pinned = (
+  refl,
+  record {
+    inputs = omega arith;
+    states = omega arith;
+    triples = omega arith;
+    map = omega arith;
+    nexts = omega arith;
+    roots = omega arith;
+    gates = omega arith;
+    scratch = omega arith;
+  },
+)

@@ -7,14 +7,15 @@ use Rattle.circuit.specs.Outcome.{limit, total}
 use Rattle.lines.specs.declared.Header.{Header}
 use Rattle.lines.specs.Reading.{got}
 use Rattle.lines.specs.Sections.{headerAt}
-use Rattle.ordered.specs.Limited.{variablesOf, Limited}
+use Rattle.ordered.specs.WellOrdered.{variablesOf, WellOrdered}
 use Rattle.binary.specs.File.{File, Room, tag}
 
 pub record Known (s : List ℕ) (room : Room) (f : File) : Type 0 where
   -- every variable is an input, a latch or a gate: V is the header's M
   pub top : (h : Header) (at : ℕ) → headerAt s tag ≡ got h at → h .top ≡ variablesOf (f .ordered)
-  -- V and R are within the limit, the five counts sum to the roots, no next state or root is over 2V + 1, and no gate's input over its gate's code
-  pub limited : Limited (f .ordered)
+  -- V and R are within the limit, the five counts sum to the roots, no next state or root is over 2V + 1, and each gate's code exceeds its first
+  -- input, which is not below its second
+  pub wellOrdered : WellOrdered (f .ordered)
   -- all of it fits its lists
   pub nexts-fit : length (f .ordered .nexts) ≤ room .nexts
   pub gates-fit : 2 * length (f .ordered .gates) ≤ room .gates

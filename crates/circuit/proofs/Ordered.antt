@@ -1,7 +1,7 @@
--- The ordered circuit as a circuit: it defines no variable twice, and each of its literals means the bit that `valuesOf` computes. By induction on
--- the variable, since a gate's inputs have smaller codes. Assumes nothing.
+-- The ordered circuit as a circuit: it defines no variable twice; where its gates are in order every variable up to the last gate's is grounded, since a
+-- step leads to a smaller one, and each literal means the bit that `valuesOf` computes, by induction on the variable. Assumes nothing.
 use Prim.Native.Nat.{ℕ, zero, suc, _+_, _*_, _-_, _/_, _<_, _≤_}
-use mathlib.Core.Path.{_≡_, refl, _∙_, ap, ap₂, subst⁻¹}
+use mathlib.Core.Path.{_≡_, refl, _∙_, ap, ap₂, subst, subst⁻¹}
 use mathlib.Core.Logic.{_⊎_, inl, inr}
 use mathlib.Core.Bool.{Bool, _&&_}
 use mathlib.Core.List.{List, [], _∷_, _++_, map}
@@ -9,7 +9,7 @@ use native.Mathlib.Omega.{arith}
 use lib.ListN.{length, getD}
 use Rattle.lit.specs.Code.{var, isOdd}
 use Rattle.lit.proofs.Flips.{odd-false}
-use Rattle.circuit.specs.Graph.{In, Distinct, Gate, Graph, outVar, DefinedOnce, Means}
+use Rattle.circuit.specs.Graph.{In, Distinct, Gate, Graph, outVar, defined, DefinedOnce, Step, toFirst, toSecond, Reach, here, via, Grounded, Means}
 use Rattle.circuit.specs.Walk.{Pair, firstCode, nextCode}
 use Rattle.circuit.specs.Ordered.{Ordered, countFrom, gatesFrom, sourcesOf, given, orderedGraph, noPair, InOrder, flipIf, bitOf, valuesOf, givenFrom}
 use Rattle.circuit.proofs.Tests.{lt-or}
@@ -26,6 +26,15 @@ unfolding upFrom
 upFrom-in k zero v h = absurd h
 upFrom-in k (suc n) v (inl e) = omega arith
 upFrom-in k (suc n) v (inr h) = omega (arith, upFrom-in (suc k) n v h)
+
+upFrom-has : (k n v : ℕ) → k ≤ v → v < k + n → In v (upFrom k n)
+unfolding upFrom
+upFrom-has k zero v p q = absurd (omega arith)
+upFrom-has k (suc n) v p q = go (lt-or k v) (λ h. upFrom-has (suc k) n v (omega arith) (omega arith))
+  where
+    go : (k < v) ⊎ (v ≤ k) → (k < v → In v (upFrom (suc k) n)) → In v (k ∷ upFrom (suc k) n)
+    go (inl h) rec = inr (rec h)
+    go (inr h) rec = inl (omega arith)
 
 upFrom-distinct : (k n : ℕ) → Distinct (upFrom k n)
 unfolding upFrom
@@ -87,6 +96,29 @@ gatesFrom-in t (p ∷ ps) (suc j) h =
     let e : t + 2 * suc j ≡ (t + 2) + 2 * j = omega arith in
     rw e (inr (gatesFrom-in (t + 2) ps j (omega arith)))
 
+-- and each of these gates stands at a place, with the pair of that place for its inputs
+pub record Placed (t : ℕ) (ps : List Pair) (g : Gate) : Type 0 where
+  pub place : ℕ
+  pub inside : place < length ps
+  pub output : g .output ≡ t + 2 * place
+  pub first : g .first ≡ getD ps place noPair .larger
+  pub second : g .second ≡ getD ps place noPair .smaller
+
+pub gatesFrom-place : (t : ℕ) (ps : List Pair) (g : Gate) → In g (gatesFrom t ps) → Placed t ps g
+gatesFrom-place t [] g h = absurd h
+gatesFrom-place t (p ∷ ps) g (inl e) =
+    let o : g .output ≡ t = ap (λ (x : Gate). x .output) e in
+    record {
+      place = 0;
+      inside = omega arith;
+      output = omega arith;
+      first = ap (λ (x : Gate). x .first) e;
+      second = ap (λ (x : Gate). x .second) e;
+    }
+gatesFrom-place t (p ∷ ps) g (inr h) =
+    let r = gatesFrom-place (t + 2) ps g h in
+    record { place = suc (r .place); inside = omega (arith, r .inside); output = omega (arith, r .output); first = r .first; second = r .second }
+
 module _ (O : Ordered) where
   abbrev n : ℕ
   n = sourcesOf O
@@ -102,15 +134,41 @@ module _ (O : Ordered) where
   unfolding orderedGraph given
   ordered-gates = refl
 
-  pub ordered-once : DefinedOnce D
+  ordered-defined : defined D ≡ upFrom 0 (suc (n + length (O .gates)))
   unfolding firstCode upFrom
-  ordered-once =
+  ordered-defined =
       let p : map var (D .sources) ≡ upFrom 1 n = ap (λ (l : List ℕ). map var l) ordered-sources ∙ countFrom-var 1 n in
       let q : map outVar (D .gates) ≡ upFrom (1 + n) (length (O .gates))
       = ap (λ (l : List Gate). map outVar l) ordered-gates ∙ ap (λ (t : ℕ). map outVar (gatesFrom t (O .gates))) (omega arith)
       ∙ gatesFrom-var (1 + n) (O .gates) in
-      subst⁻¹ (λ (l : List ℕ). Distinct (0 ∷ l)) (ap₂ (λ (a b : List ℕ). a ++ b) p q ∙ upFrom-append 1 n (length (O .gates)))
-      (upFrom-distinct 0 (suc (n + length (O .gates))))
+      ap {B = List ℕ} (λ l. 0 ∷ l) (ap₂ (λ (a b : List ℕ). a ++ b) p q ∙ upFrom-append 1 n (length (O .gates)))
+
+  pub ordered-once : DefinedOnce D
+  ordered-once = subst⁻¹ Distinct ordered-defined (upFrom-distinct 0 (suc (n + length (O .gates))))
+
+  module _ (order : InOrder n (O .gates)) where
+    input-below : (g : Gate) → In g (D .gates) → (var (g .first) < outVar g) × (var (g .second) < outVar g)
+    unfolding firstCode
+    input-below g h =
+        let p = gatesFrom-place (firstCode n) (O .gates) g (subst (In g) ordered-gates h) in
+        let o = order (p .place) (p .inside) in
+        (omega (arith, p .output, p .first, o .1), omega (arith, p .output, p .second, o .0, o .1))
+
+    step-falls : {u v : ℕ} → Step D u v → v < u
+    step-falls (toFirst g h e e′) = omega (arith, input-below g h .0)
+    step-falls (toSecond g h e e′) = omega (arith, input-below g h .1)
+
+    reach-falls : {u v : ℕ} → Reach D u v → v ≤ u
+    reach-falls (here e) = omega arith
+    reach-falls (via s r) = omega (arith, step-falls s, reach-falls r)
+
+    -- what a variable reaches is not above it, hence defined; and what reaches itself would be below itself
+    pub ordered-grounded : (v : ℕ) → v < n + 1 + length (O .gates) → Grounded D v
+    ordered-grounded v h =
+        record {
+          known = λ u r. subst⁻¹ (In u) ordered-defined (upFrom-has 0 (suc (n + length (O .gates))) u (omega arith) (omega (arith, reach-falls r)));
+          noLoop = λ u r l. omega (arith, step-falls (l .step), reach-falls (l .back));
+        }
 
   -- what a variable of the ordered circuit is
   data Kind (v : ℕ) : Type 0 where

@@ -10,6 +10,7 @@ pub fn run() {
     limited(b"8 7 0");
     odd(b"7 0");
     groups(b"\x82\x02\x02\x02\x02\x02\x07\x80");
+    zero(b"\x02\x02\x80\x00\x02");
 }
 
 // An answer that took as many bytes.
@@ -61,6 +62,15 @@ fn after(s: &[u8], inputs: PairToken) {
         b"delta_code from 6, there",
         reading::delta_code(s, took(5), code, 6),
     );
+}
+
+// Two pairs, the second of which has a first delta of zero, and where it began that delta alone.
+fn zero(s: &[u8]) {
+    let inputs = reading::pair(s, took(0), took(0), 6);
+    let refused = reading::pair_after(s, took(0), inputs, 6);
+    pair(b"pair for 6, its first delta zero", refused);
+    let code = reading::delta_after(s, took(2), refused, 6);
+    token(b"delta_code from 6, where the pair began", code);
 }
 
 fn token(name: &[u8], t: Token) {

@@ -11,7 +11,7 @@ use borrow.Author.Tests.{ltb-true}
 use Rattle.token.specs.Format.{groupsValue, decimalValue}
 use Rattle.token.specs.Answer.{digitsAt, uintAt, uintOf, within, headerFieldAt, goOnAt, binaryOf, binaryAt, less, deltaAt, pairFirst, pairSecond, pairAt}
 use Rattle.token.specs.declared.Reason.{Reason}
-use Rattle.token.specs.declared.Reason.the-variants.{NoDigit, LeadingZero, OverWidth, OverLimit, Cut, TooLong, OverReference}
+use Rattle.token.specs.declared.Reason.the-variants.{NoDigit, LeadingZero, OverWidth, OverLimit, Cut, TooLong, OverReference, ZeroDelta}
 use Rattle.token.specs.declared.Token.{Token}
 use Rattle.token.specs.declared.Token.the-variants.{Value, Refused}
 use Rattle.token.specs.declared.PairToken.{PairToken}
@@ -24,7 +24,7 @@ use Rattle.lines.specs.declared.Header.{Header}
 use Rattle.lines.specs.Reading.{Read, got, no, _▸_, rowAt}
 use Rattle.lines.specs.Lines.{isByte, byteAt, spaceAt, newlineAt, begins, tagAt, numberOf, numberAt, lineAt, linesAt, resetAt, latchAt, latchesAt}
 use Rattle.lines.specs.Sections.{countAt, optionsAt, headerOf, othersAt, countsAt, headerAt, topCode, firstRoots, rootCount, rootRoomAt, propertiesAt, sizesAt, rootsOf, rootsAt}
-use Rattle.token.specs.Claims.{NamesPlace, RefusedDelta, first, second}
+use Rattle.token.specs.Claims.{NamesPlace, RefusedDelta, first, second, firstZero}
 use Rattle.token.proofs.Refusals.{header-field-place}
 use Rattle.token.proofs.Theorems.{delta-uses, pair-uses, pair-names-the-delta}
 use Rattle.lines.proofs.Answers.{number-held}
@@ -44,6 +44,7 @@ pub record Has (P : Fault → Type 0) : Type 0 where
   pub cut : P (Number Cut)
   pub too-long : P (Number TooLong)
   pub over-reference : P (Number OverReference)
+  pub zero-delta : P (Number ZeroDelta)
   pub missing : P Missing
   pub above : P Above
   pub too-many : P TooMany
@@ -121,7 +122,11 @@ module _ (s : List ℕ) (room : Room) (P : Fault → Type 0) (has : Has P) where
   pair at code = first (deltaAt s at code) (delta at code)
     where
       second : (a n : ℕ) (t : Token) → OnlyToken t → OnlyPair (pairSecond code at a n t)
-      second a n (Value b m) h = tt
+      second a n (Value b m) h = last (eqb a code)
+        where
+          last : (z : Bool) → OnlyPair (cond z (PairRefused ZeroDelta at) (Inputs a b (n + m)))
+          last true = has .zero-delta
+          last false = tt
       second a n (Refused why place) h = h
 
       first : (t : Token) → OnlyToken t → OnlyPair (pairFirst s code at t)
@@ -268,6 +273,7 @@ module _ (s : List ℕ) (room : Room) (P : Fault → Type 0) (has : Has P) where
     where
       placed : (why : Reason) (place : ℕ) → RefusedDelta s at (firstCode n + 2 * k) why place → place ≤ length s
       placed why place (first e p) = omega (arith, i, p)
+      placed why place (firstZero z w p) = omega (arith, i, p)
       placed why place (second a m e f p) = omega (arith, delta-uses s at (firstCode n + 2 * k) a m e, p)
 
       go : (t : PairToken) → pairAt s at (firstCode n + 2 * k) ≡ t → OnlyPair t → Ends (gateOf at t)

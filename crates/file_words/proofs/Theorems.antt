@@ -14,7 +14,7 @@ use Rattle.promise.specs.Determined.{DeterminesCells}
 use Rattle.lines.specs.Numbers.{faultNumber}
 use Rattle.token.specs.Answer.{reasonNumber}
 use Rattle.token.specs.declared.Reason.{Reason}
-use Rattle.token.specs.declared.Reason.the-variants.{NoDigit, LeadingZero, OverWidth, OverLimit, AssignsZero, AssignsOdd, Cut, TooLong, OverReference}
+use Rattle.token.specs.declared.Reason.the-variants.{NoDigit, LeadingZero, OverWidth, OverLimit, AssignsZero, AssignsOdd, Cut, TooLong, OverReference, ZeroDelta}
 use Rattle.lines.specs.declared.Fault.{Fault}
 use Rattle.lines.specs.declared.Fault.the-variants.{Number, Missing, Above, TooMany, Short}
 use Rattle.lines.specs.Reading.{Read, got, no}
@@ -41,7 +41,7 @@ among n (m ∷ ms) = eqb n m || among n ms
 
 -- a file is refused by one of these numbers, whatever the lists
 abbrev pub Given : Fault → Type 0
-Given why = among (faultNumber why) (1 ∷ 3 ∷ 10 ∷ 11 ∷ 12 ∷ 15 ∷ 16 ∷ 17 ∷ 18 ∷ 19 ∷ []) ≡ true
+Given why = among (faultNumber why) (1 ∷ 3 ∷ 10 ∷ 11 ∷ 12 ∷ 15 ∷ 16 ∷ 17 ∷ 18 ∷ 19 ∷ 20 ∷ []) ≡ true
 
 has-given : Has Given
 has-given =
@@ -53,6 +53,7 @@ has-given =
       cut = refl;
       too-long = refl;
       over-reference = refl;
+      zero-delta = refl;
       missing = refl;
       above = refl;
       too-many = refl;
@@ -93,6 +94,7 @@ never-three bytes l words room ample = rw (le-ltb (length words) 11 room) (go (r
         reason Cut h = omega arith
         reason TooLong h = omega arith
         reason OverReference h = omega arith
+        reason ZeroDelta h = omega arith
     refused Missing place e g = omega arith
     refused Above place e g = omega arith
     refused TooMany place e g = omega arith

@@ -1,32 +1,35 @@
--- An ordered circuit within the limits passes checks 1, 2 and 4 as it is given, and where renumbering of it succeeds its values are kept: its codes are
--- counted upwards, and no input is over its gate's code, which is at most 2V. Assumes nothing.
-use Prim.Native.Nat.{ℕ, zero, suc, _+_, _*_, _≤_, _<_}
+-- An ordered circuit within the limits whose gates are in order passes checks 1, 2 and 4 as it is given: its codes are counted upwards, and an input is below
+-- its gate's code, which is at most 2V. It defines no variable twice and all that is walked is grounded, so that renumbering succeeds, and then its values are
+-- kept. Assumes nothing.
+use Prim.Native.Nat.{ℕ, zero, suc, _+_, _*_, _≤_}
 use mathlib.Core.Path.{_≡_, refl, sym, ap, _∙_, subst, subst⁻¹}
 use mathlib.Core.Logic.{inl, inr}
 use mathlib.Core.Bool.{Bool}
 use mathlib.Core.List.{List, [], _∷_}
 use native.Mathlib.Omega.{arith}
 use lib.ListN.{length, getD}
-use Rattle.lit.specs.Code.{literal}
+use Rattle.lit.specs.Code.{var, literal}
 use Rattle.circuit.specs.declared.Summary.{Summary}
 use Rattle.circuit.specs.declared.Answer.the-variants.{Renumbered}
-use Rattle.circuit.specs.Graph.{In, Gate, Graph}
+use Rattle.circuit.specs.Graph.{In, Graph, DefinedOnce}
 use Rattle.circuit.specs.Walk.{Pair, firstCode}
 use Rattle.circuit.specs.Circuit.{Circuit, graph}
-use Rattle.circuit.specs.Ordered.{Ordered, countFrom, gatesFrom, sourcesOf, given, orderedGraph, noPair}
+use Rattle.circuit.specs.Ordered.{Ordered, countFrom, gatesFrom, sourcesOf, given, orderedGraph, InOrder}
 use Rattle.circuit.specs.Outcome as C
 use Rattle.circuit.specs.Outcome.{Lent, circuitOf, total, pairWords, held}
-use Rattle.circuit.specs.Claims.{Within, Agrees, Roomy, Bounded, Passes, SameValue}
+use Rattle.circuit.specs.Claims.{Within, Agrees, Roomy, Bounded, Passes, IsWalked, AllGrounded, SameValue}
 use Rattle.circuit.specs.Demands.{AfterSuccess}
 use Rattle.circuit.proofs.Demands.{demands}
-use Rattle.circuit.proofs.Ordered.{countFrom-length}
+use Rattle.circuit.proofs.Listed.{walked-exactly}
+use Rattle.circuit.proofs.Ordered.{countFrom-length, gatesFrom-place, ordered-once, ordered-grounded}
 use Rattle.ordered.specs.declared.Expansion.the-variants.{Expanded}
 use Rattle.ordered.specs.Expand.{Lists, Outcome, expansion, Lends}
-use Rattle.ordered.specs.Limited.{Limited, Keeps}
+use Rattle.ordered.specs.WellOrdered.{variablesOf, WellOrdered}
+use Rattle.ordered.specs.Keeps.{Keeps}
 use Rattle.ordered.proofs.Laid.{laid-length, words-length}
 use Rattle.ordered.proofs.Expansions.{all-filled, expanded-words, expanded-given}
 
--- codes that are counted, and gates whose outputs are
+-- codes that are counted, and as many gates as pairs
 
 in-count : (t n c : ℕ) → In c (countFrom t n) → c + 2 ≤ t + 2 * n
 in-count t zero c i = absurd i
@@ -37,26 +40,7 @@ gates-length : (t : ℕ) (ps : List Pair) → length (gatesFrom t ps) ≡ length
 gates-length t [] = refl
 gates-length t (p ∷ ps) = ap suc (gates-length (t + 2) ps)
 
-record Low (g : Gate) (past : ℕ) : Type 0 where
-  output : g .output + 2 ≤ past
-  first : g .first ≤ g .output
-  second : g .second ≤ g .first
-
-in-gates : (t : ℕ) (ps : List Pair)
-    → ((j : ℕ) → j < length ps → (getD ps j noPair .smaller ≤ getD ps j noPair .larger) × (getD ps j noPair .larger ≤ t + 2 * j))
-    → (g : Gate) → In g (gatesFrom t ps) → Low g (t + 2 * length ps)
-in-gates t [] falls g i = absurd i
-in-gates t (p ∷ ps) falls g (inl e) =
-    let o : g .output ≡ t = ap (λ (x : Gate). x .output) e in
-    let a : g .first ≡ p .larger = ap (λ (x : Gate). x .first) e in
-    let b : g .second ≡ p .smaller = ap (λ (x : Gate). x .second) e in
-    let f = falls 0 (omega arith) in
-    record { output = omega arith; first = omega (arith, f .1); second = omega (arith, f .0) }
-in-gates t (p ∷ ps) falls g (inr i) =
-    let low = in-gates (t + 2) ps (λ j h. let f = falls (suc j) (omega arith) in (f .0, omega (arith, f .1))) g i in
-    record { output = omega (arith, low .output); first = low .first; second = low .second }
-
-module _ (O : Ordered) (k : Limited O) (trim hash fold : Bool) where
+module _ (O : Ordered) (k : WellOrdered O) (trim hash fold : Bool) where
   pub within : Within (given O trim hash fold)
   unfolding given
   within =
@@ -73,15 +57,29 @@ module _ (O : Ordered) (k : Limited O) (trim hash fold : Bool) where
   bounded =
       record {
         inputs = λ c i. omega (arith, in-count 2 (O .inputs) c i);
-        gates = λ g i. let low = in-gates (2 * (sourcesOf O + 1)) (O .gates) (k .gates) g i in (
-          omega (arith, low .output),
-          omega (arith, low .output, low .first),
-          omega (arith, low .output, low .first, low .second),
+        gates = λ g i. let p = gatesFrom-place (2 * (sourcesOf O + 1)) (O .gates) g i in let o = k .gates (p .place) (p .inside) in (
+          omega (arith, p .inside, p .output),
+          omega (arith, p .inside, p .first, o .1),
+          omega (arith, p .inside, p .second, o .0, o .1),
         );
         states = λ c i. omega (arith, in-count (2 + 2 * O .inputs) (length (O .nexts)) c i);
         nexts = k .nexts;
         roots = k .roots;
       }
+
+  pub once : DefinedOnce (graph (given O trim hash fold))
+  unfolding given orderedGraph
+  once = ordered-once O
+
+  -- whatever is walked is a code up to 2V + 1
+  pub grounded : AllGrounded (given O trim hash fold)
+  unfolding given orderedGraph
+  grounded c i = ordered-grounded O (k .gates) (var c) (omega (arith, low (walked-exactly (given O trim hash fold) c .0 i)))
+    where
+      low : IsWalked (given O trim hash fold) c → c ≤ 2 * variablesOf O + 1
+      low (inl h) = omega (arith, bounded .gates (h .0) (h .1) .0, h .2)
+      low (inr (inl h)) = k .nexts c h
+      low (inr (inr h)) = k .roots c h
 
   -- lent after `expand`
   module _ (lists : Lists) (o : Outcome) (e : o ≡ expansion (O .inputs) (length (O .nexts)) (pairWords (O .gates)) lists) (f : o .answer ≡ Expanded)
@@ -101,6 +99,21 @@ module _ (O : Ordered) (k : Limited O) (trim hash fold : Bool) where
         let roots : length (l .roots) ≡ length (O .roots) = ap length (lends .roots) in
         record { roots = omega (arith, k .counts); latches = omega arith; words = omega arith }
 
+    -- the lists to be written are long enough where they are so for O
+    pub roomy : variablesOf O + 1 ≤ length (l .map) → length (O .nexts) ≤ length (l .nextImages) → length (O .roots) ≤ length (l .rootImages)
+        → 2 * length (O .gates) ≤ length (l .gatesOut) → 3 * variablesOf O + 3 + 3 * length (O .gates) ≤ length (l .scratch) → Roomy l (circuitOf l)
+    unfolding given
+    roomy map nexts roots gates scratch =
+        let many = gates-length (firstCode (sourcesOf O)) (O .gates) in
+        subst⁻¹ (Roomy l) same
+        (record {
+          map = map;
+          nexts = omega (arith, countFrom-length (2 + 2 * O .inputs) (length (O .nexts)));
+          roots = roots;
+          gates = omega (arith, many);
+          scratch = omega (arith, many);
+        })
+
     -- checks 1 to 4 are passed where the lists to be written are long enough
     pub passes : Roomy l (circuitOf l) → Passes l
     passes room =
@@ -109,13 +122,27 @@ module _ (O : Ordered) (k : Limited O) (trim hash fold : Bool) where
           bounded = subst⁻¹ Bounded same bounded;
         }
 
-    -- after a success every next state and root has its value
+    -- and renumbering succeeds
+    pub renumbers : Roomy l (circuitOf l) → (s : Summary) × (C.outcome l .answer ≡ Renumbered s)
+    renumbers room =
+        demands l .succeedsExactly (passes room) .1 (subst⁻¹ (λ (x : Circuit). DefinedOnce (graph x) × AllGrounded x) same (once, grounded))
+
+    success : (r : C.Outcome) → r ≡ C.outcome l → (s : Summary) → r .answer ≡ Renumbered s
+        → AfterSuccess l (circuitOf l) (C.outcome l) s (held l s (C.outcome l))
+    success r left s answered = demands l .success s (sym (ap (λ (x : C.Outcome). x .answer) left) ∙ answered)
+
+    -- after a success the gates are in order
+    pub in-order : (r : C.Outcome) → r ≡ C.outcome l → (s : Summary) → r .answer ≡ Renumbered s → InOrder (sourcesOf (held l s r)) (held l s r .gates)
+    in-order r left s answered =
+        subst⁻¹ (λ (x : C.Outcome). InOrder (sourcesOf (held l s x)) (held l s x .gates)) left (success r left s answered .gatesInOrder)
+
+    -- and every next state and root has its value
     pub keeps : (r : C.Outcome) → r ≡ C.outcome l → (s : Summary) → r .answer ≡ Renumbered s → Keeps O (held l s r)
     unfolding given orderedGraph
     keeps r left s answered = subst⁻¹ (λ (x : C.Outcome). Keeps O (held l s x)) left kept
       where
         after : AfterSuccess l (circuitOf l) (C.outcome l) s (held l s (C.outcome l))
-        after = demands l .success s (sym (ap (λ (x : C.Outcome). x .answer) left) ∙ answered)
+        after = success r left s answered
 
         D : Ordered
         D = held l s (C.outcome l)
@@ -152,7 +179,7 @@ module _ (O : Ordered) (k : Limited O) (trim hash fold : Bool) where
             }
 
 -- `expand` fills its lists of such a circuit where they are long enough
-pub fills : (O : Ordered) → Limited O → (lists : Lists) → O .inputs ≤ length (lists .inputs) → length (O .nexts) ≤ length (lists .states)
+pub fills : (O : Ordered) → WellOrdered O → (lists : Lists) → O .inputs ≤ length (lists .inputs) → length (O .nexts) ≤ length (lists .states)
     → 3 * length (O .gates) ≤ length (lists .triples) → expansion (O .inputs) (length (O .nexts)) (pairWords (O .gates)) lists .answer ≡ Expanded
 fills O k lists p q r =
     let n = words-length (O .gates) in

@@ -1,17 +1,23 @@
 -- Expanding an ordered circuit by example: each the smallest on which a neighbouring definition answers otherwise. The lists are dirty, each with numbers of
--- its own, and longer than asked; the words past those asked for are seen to stay. By computation. Assumes nothing.
-use Prim.Native.Nat.{ℕ}
+-- its own, and longer than asked; the words past those asked for are seen to stay. By computation. And which circuits are well ordered, by example, each
+-- field at its bound and one past it. Assumes nothing.
+use Prim.Native.Nat.{ℕ, zero, suc, _≤_, _<_}
 use mathlib.Core.Path.{_≡_, refl}
+use mathlib.Core.Logic.{inl, inr}
 use mathlib.Core.Bool.{Bool}
 use mathlib.Core.List.{List, [], _∷_}
+use native.Mathlib.Omega.{arith}
+use lib.ListN.{replicate, length-replicate}
 use Rattle.lit.specs.Code.{variable}
 use Rattle.circuit.specs.Walk.{Pair, firstCode}
 use Rattle.circuit.specs.Graph.{Gate}
-use Rattle.circuit.specs.Ordered.{Ordered}
+use Rattle.circuit.specs.Ordered.{Ordered, InOrder}
 use Rattle.circuit.specs.Outcome.{Lent, lentOf}
+use Rattle.circuit.specs.Claims.{AllWithin}
 use Rattle.ordered.specs.declared.Expansion.{Expansion}
 use Rattle.ordered.specs.declared.Expansion.the-variants.{Expanded, TooBig, Misshapen, Short}
 use Rattle.ordered.specs.Expand.{expansionNumber, gateWords, Lists, Outcome, seen, filled, expansion, Lends}
+use Rattle.ordered.specs.WellOrdered.{WellOrdered}
 
 -- the three lists, and with an answer what is left of them
 abbrev lists : List ℕ → List ℕ → List ℕ → Lists
@@ -88,3 +94,66 @@ lent trim hash fold =
 
 pub lends-pinned : (trim hash fold : Bool) → Lends circuit trim hash fold dirty (lent trim hash fold)
 lends-pinned trim hash fold = record { circuit = refl; inputs = refl; states = refl; nexts = refl; gates = refl; roots = refl }
+
+-- one input, one latch, and one gate, 6, where no code is over 7: its next state, its pair, the number of its outputs, its output
+abbrev single : ℕ → Pair → ℕ → ℕ → Ordered
+single next p count root = record { inputs = 1; nexts = (next ∷ []); gates = p ∷ []; counts = (count ∷ []); roots = (root ∷ []) }
+
+-- nothing but inputs, and nothing but outputs
+abbrev wide : ℕ → Ordered
+wide n = record { inputs = n; nexts = []; gates = []; counts = []; roots = [] }
+
+abbrev rooted : ℕ → Ordered
+rooted n = record { inputs = 0; nexts = []; gates = []; counts = (n ∷ []); roots = replicate n 1 }
+
+pub well-ordered-pinned :
+    -- an input one below its gate's code, and both inputs equal; the gate's own code as an input; the first input below the second
+    WellOrdered (single 7 (pair 5 5) 1 7)
+    × (WellOrdered (single 7 (pair 6 2) 1 7) → ⊥)
+    × (WellOrdered (single 7 (pair 2 3) 1 7) → ⊥)
+    -- a next state over 2V + 1, a root over it, and a count that is not the number of roots
+    × (WellOrdered (single 8 (pair 5 5) 1 7) → ⊥)
+    × (WellOrdered (single 7 (pair 5 5) 1 8) → ⊥)
+    × (WellOrdered (single 7 (pair 5 5) 2 7) → ⊥)
+    -- V at the limit, and over it; R so too
+    × WellOrdered (wide 1048575)
+    × (WellOrdered (wide 1048576) → ⊥)
+    × ((n : ℕ) → n ≤ 1048575 → WellOrdered (rooted n))
+    × ((n : ℕ) → 1048575 < n → WellOrdered (rooted n) → ⊥)
+unfolding firstCode
+well-ordered-pinned = (
+  record { variables = omega arith; few = omega arith; counts = refl; nexts = seven; roots = seven; gates = fives },
+  λ k. omega (arith, k .gates 0 (omega arith) .1),
+  λ k. omega (arith, k .gates 0 (omega arith) .0),
+  λ k. omega (arith, k .nexts 8 (inl refl)),
+  λ k. omega (arith, k .roots 8 (inl refl)),
+  λ k. omega (arith, k .counts),
+  record { variables = omega arith; few = omega arith; counts = refl; nexts = λ c i. absurd i; roots = λ c i. absurd i; gates = no-gates 1048575 },
+  λ k. omega (arith, k .variables),
+  λ n h.
+      record {
+        variables = omega arith;
+        few = omega (arith, length-replicate {A = ℕ} n 1);
+        counts = omega (arith, length-replicate {A = ℕ} n 1);
+        nexts = λ c i. absurd i;
+        roots = ones n;
+        gates = no-gates 0;
+      },
+  λ n h k. omega (arith, k .few, length-replicate {A = ℕ} n 1),
+)
+  where
+    seven : AllWithin 7 (7 ∷ [])
+    seven c (inl e) = omega arith
+    seven c (inr i) = absurd i
+
+    fives : InOrder 2 (pair 5 5 ∷ [])
+    fives zero h = (omega arith, omega arith)
+    fives (suc j) h = absurd (omega arith)
+
+    no-gates : (n : ℕ) → InOrder n []
+    no-gates n j h = absurd (omega arith)
+
+    ones : (n : ℕ) → AllWithin 1 (replicate n 1)
+    ones zero c i = absurd i
+    ones (suc n) c (inl e) = omega arith
+    ones (suc n) c (inr i) = ones n c i

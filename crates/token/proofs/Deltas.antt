@@ -6,17 +6,17 @@ use Prim.Native.Nat.{ℕ, _+_, _-_, _*_, _^_, _≤_, _<_}
 use mir.Syntax.{w64}
 use mir.Val.{Fits}
 use native.Mathlib.Omega.{arith}
-use lib.Dec.{leb}
+use lib.Dec.{leb, eqb}
 use lib.ListN.{length, take}
-use borrow.Author.Tests.{leb-true, leb-false}
+use borrow.Author.Tests.{leb-true, leb-false, eqb-false, ne-eqb}
 use Rattle.token.specs.Format.{groupsValue}
-use Rattle.token.specs.Answer.{goOnAt, binaryAt, deltaAt, less, pairAt, pairFirst, pairSecond}
-use Rattle.token.specs.declared.Reason.the-variants.{Cut, TooLong, OverReference}
+use Rattle.token.specs.Answer.{goOnAt, binaryAt, deltaAt, less, pairAt, pairOf, pairFirst, pairSecond}
+use Rattle.token.specs.declared.Reason.the-variants.{Cut, TooLong, OverReference, ZeroDelta}
 use Rattle.token.specs.declared.Token.{Token}
 use Rattle.token.specs.declared.Token.the-variants.{Value, Refused}
-use Rattle.token.specs.declared.PairToken.the-variants.{Inputs}
+use Rattle.token.specs.declared.PairToken.the-variants.{Inputs, PairRefused}
 use Rattle.token.proofs.Groups.{eightAt, length-eight}
-use Rattle.token.specs.Claims.{Used, PairUsed}
+use Rattle.token.specs.Claims.{Used, PairUsed, Paired}
 
 -- a number that is read is what its bytes write: k go on, and one more ends it
 pub record BinaryRead (s : List ℕ) (at v n : ℕ) : Type 0 where
@@ -72,13 +72,7 @@ delta-used s at reference v n e = binary-used s at (reference - v) n (delta-from
 pub delta-place : (s : List ℕ) (at reference v n : ℕ) → deltaAt s at reference ≡ Value v n → length s * 1 < 2 ^ 63 → Fits w64 (at + n)
 delta-place s at reference v n e room = let u = delta-used s at reference v n e in record { fits = omega (arith, u .inside) }
 
--- a gate's pair that is read: two deltas, the second from the first's value and at the place after its bytes
-pub record Paired (s : List ℕ) (at code a b used : ℕ) : Type 0 where
-  pub n : ℕ
-  pub m : ℕ
-  pub first : deltaAt s at code ≡ Value a n
-  pub second : deltaAt s (at + n) a ≡ Value b m
-  pub bytes : n + m ≡ used
+-- a gate's pair
 
 pub pair-read : (s : List ℕ) (at code a b used : ℕ) → pairAt s at code ≡ Inputs a b used → Paired s at code a b used
 unfolding pairAt
@@ -87,25 +81,31 @@ pair-read s at code a b used e = go (deltaAt s at code) refl e
     then : (x n : ℕ) → deltaAt s at code ≡ Value x n → (t : Token) → deltaAt s (at + n) x ≡ t → pairSecond code at x n t ≡ Inputs a b used
         → Paired s at code a b used
     then x n f (Refused why place) g q = let z : _≡_ {A = ℕ} 0 1 = cc in absurd (omega arith)
-    then x n f (Value y m) g q =
-        let same : x ≡ a = cc in
-        let other : y ≡ b = cc in
-        record { n = n; m = m; first = rw (← same) f; second = rw (← same, ← other) g; bytes = cc }
+    then x n f (Value y m) g q = last (eqb x code) refl q
+      where
+        last : (z : Bool) → eqb x code ≡ z → cond z (PairRefused ZeroDelta at) (Inputs x y (n + m)) ≡ Inputs a b used → Paired s at code a b used
+        last true h q′ = let z : _≡_ {A = ℕ} 0 1 = cc in absurd (omega arith)
+        last false h q′ =
+            let same : x ≡ a = cc in
+            let other : y ≡ b = cc in
+            let apart : x ≡ code → ⊥ = eqb-false x code h in
+            let most : x ≤ code = delta-from s at code x n f .0 in
+            record { n = n; m = m; first = rw (← same) f; second = rw (← same, ← other) g; below = omega arith; bytes = cc }
 
     go : (t : Token) → deltaAt s at code ≡ t → pairFirst s code at t ≡ Inputs a b used → Paired s at code a b used
     go (Refused why place) f q = let z : _≡_ {A = ℕ} 0 1 = cc in absurd (omega arith)
     go (Value x n) f q = then x n f (deltaAt s (at + n) x) refl q
 
--- two deltas that are read make a pair
-pub pair-of : (s : List ℕ) (at code a b n m : ℕ) → deltaAt s at code ≡ Value a n → deltaAt s (at + n) a ≡ Value b m → pairAt s at code ≡ Inputs a b (n + m)
+-- two deltas that are read make a pair, if the first is not zero
+pub pair-of : (s : List ℕ) (at code a b used : ℕ) → Paired s at code a b used → pairAt s at code ≡ Inputs a b used
 unfolding pairAt
-pair-of s at code a b n m f g = rw (f, g)
+pair-of s at code a b used p = rw (p .first, p .second, ne-eqb a code (λ e. omega (arith, p .below)), p .bytes)
 
--- the second input is at most the first, and that at most the output's code
-pub pair-falls : (s : List ℕ) (at code a b used : ℕ) → pairAt s at code ≡ Inputs a b used → (b ≤ a) × (a ≤ code)
+-- the second input is at most the first, and that below the output's code
+pub pair-falls : (s : List ℕ) (at code a b used : ℕ) → pairAt s at code ≡ Inputs a b used → (b ≤ a) × (a < code)
 pair-falls s at code a b used e =
     let p = pair-read s at code a b used e in
-    (delta-from s (at + p .n) a b (p .m) (p .second) .0, delta-from s at code a (p .n) (p .first) .0)
+    (delta-from s (at + p .n) a b (p .m) (p .second) .0, p .below)
 
 pub pair-used : (s : List ℕ) (at code a b used : ℕ) → pairAt s at code ≡ Inputs a b used → PairUsed s at used
 pair-used s at code a b used e =

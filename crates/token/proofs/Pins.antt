@@ -7,7 +7,7 @@ use mathlib.Core.List.{List, [], _∷_}
 use native.Mathlib.Omega.{arith}
 use Rattle.token.specs.Format.{Bytes, isDigit, goesOn, Grouped, final, group, digitsOf, shortest}
 use Rattle.token.specs.Answer.{reasonNumber, tokenNumber, pairNumber, digitsAt, uintAt, goOnAt, binaryAt, less, deltaAt, within, assigned, headerFieldAt, litAt, symbolIndexAt, pairOf, pairSecond, pairFirst, pairAt}
-use Rattle.token.specs.declared.Reason.the-variants.{NoDigit, LeadingZero, OverWidth, OverLimit, AssignsZero, AssignsOdd, Cut, TooLong, OverReference}
+use Rattle.token.specs.declared.Reason.the-variants.{NoDigit, LeadingZero, OverWidth, OverLimit, AssignsZero, AssignsOdd, Cut, TooLong, OverReference, ZeroDelta}
 use Rattle.token.specs.declared.Token.the-variants.{Value, Refused}
 use Rattle.token.specs.declared.PairToken.the-variants.{Inputs, PairRefused}
 
@@ -26,8 +26,8 @@ pub told :
     × (tokenNumber (litAt (55 ∷ []) 0 6 true) ≡ 14)
     × (tokenNumber (litAt (56 ∷ []) 0 6 true) ≡ 12)
     × (tokenNumber (litAt (48 ∷ []) 0 6 true) ≡ 13)
-    -- a pair for 6: `00 02` gives (6,4), `02 02` gives (4,2)
-    × (pairAt (0x00 ∷ 0x02 ∷ []) 0 6 ≡ Inputs 6 4 2)
+    -- a pair for 6: `00 02` is 20 at 0, `02 02` gives (4,2)
+    × (pairAt (0x00 ∷ 0x02 ∷ []) 0 6 ≡ PairRefused ZeroDelta 0)
     × (pairAt (0x02 ∷ 0x02 ∷ []) 0 6 ≡ Inputs 4 2 2)
 unfolding uintAt digitsAt litAt pairAt deltaAt binaryAt goOnAt
 told = (refl, refl, refl, refl, refl, refl, refl, refl, refl, refl, refl)
@@ -77,9 +77,9 @@ limit-before-sign = (refl, refl)
 pub numbers :
     (reasonNumber NoDigit ≡ 10) × (reasonNumber LeadingZero ≡ 11) × (reasonNumber OverWidth ≡ 12) × (reasonNumber OverLimit ≡ 12)
     × (reasonNumber AssignsZero ≡ 13) × (reasonNumber AssignsOdd ≡ 14) × (reasonNumber Cut ≡ 15) × (reasonNumber TooLong ≡ 16)
-    × (reasonNumber OverReference ≡ 17)
+    × (reasonNumber OverReference ≡ 17) × (reasonNumber ZeroDelta ≡ 20)
     × (tokenNumber (Value 5 6) ≡ 0) × (tokenNumber (Refused TooLong 3) ≡ 16) × (pairNumber (Inputs 5 6 7) ≡ 0) × (pairNumber (PairRefused TooLong 3) ≡ 16)
-numbers = (refl, refl, refl, refl, refl, refl, refl, refl, refl, refl, refl, refl, refl)
+numbers = (refl, refl, refl, refl, refl, refl, refl, refl, refl, refl, refl, refl, refl, refl)
 
 -- digits are `0` to `9` and neither `/` nor `:`; a byte goes on from 0x80
 pub bytes :
@@ -142,16 +142,37 @@ pub groups :
 unfolding binaryAt goOnAt deltaAt pairAt
 groups = (refl, refl, refl, refl, refl, refl, refl, refl, refl, refl, refl)
 
+-- a first delta of zero is 20, by value, when both deltas are read; a second delta of zero is good
+pub zeros :
+    -- the pair for 6 in `80 00 02` is 20 at 0, and so behind a byte at 1; the number of it
+    (pairAt (0x80 ∷ 0x00 ∷ 0x02 ∷ []) 0 6 ≡ PairRefused ZeroDelta 0)
+    × (pairAt (0xff ∷ 0x80 ∷ 0x00 ∷ 0x02 ∷ []) 1 6 ≡ PairRefused ZeroDelta 1)
+    × (pairNumber (pairAt (0x00 ∷ 0x02 ∷ []) 0 6) ≡ 20)
+    -- `00 00` too; `00` and a second delta that is cut, too long or over 6 is the second's
+    × (pairAt (0x00 ∷ 0x00 ∷ []) 0 6 ≡ PairRefused ZeroDelta 0)
+    × (pairAt (0x00 ∷ 0x80 ∷ []) 0 6 ≡ PairRefused Cut 1)
+    × (pairAt (0x00 ∷ 0x80 ∷ 0x80 ∷ 0x80 ∷ 0x80 ∷ 0x80 ∷ 0x80 ∷ 0x80 ∷ 0x80 ∷ []) 0 6 ≡ PairRefused TooLong 1)
+    × (pairAt (0x00 ∷ 0x07 ∷ []) 0 6 ≡ PairRefused OverReference 1)
+    -- `02 00` gives (4,4), and `06 00` (0,0); a pair for 0 is never read
+    × (pairAt (0x02 ∷ 0x00 ∷ []) 0 6 ≡ Inputs 4 4 2)
+    × (pairAt (0x06 ∷ 0x00 ∷ []) 0 6 ≡ Inputs 0 0 2)
+    × (pairAt (0x00 ∷ 0x00 ∷ []) 0 0 ≡ PairRefused ZeroDelta 0)
+    -- a delta of zero by itself is read
+    × (deltaAt (0x00 ∷ []) 0 6 ≡ Value 6 1)
+    × (deltaAt (0x80 ∷ 0x00 ∷ []) 0 6 ≡ Value 6 2)
+unfolding binaryAt goOnAt deltaAt pairAt
+zeros = (refl, refl, refl, refl, refl, refl, refl, refl, refl, refl, refl, refl)
+
 -- a step on what is read: a value that passes stays, one that does not is refused at the place of the step, and a refusal stays as it is
 pub steps :
     (within 6 5 (Value 6 2) ≡ Value 6 2) × (within 6 5 (Value 7 2) ≡ Refused OverLimit 5) × (within 6 5 (Refused Cut 3) ≡ Refused Cut 3)
     × (assigned 9 (Value 4 2) ≡ Value 4 2) × (assigned 9 (Value 5 2) ≡ Refused AssignsOdd 9) × (assigned 9 (Value 0 2) ≡ Refused AssignsZero 9)
     × (assigned 9 (Refused Cut 3) ≡ Refused Cut 3)
     × (less 6 5 (Value 6 2) ≡ Value 0 2) × (less 6 5 (Value 7 2) ≡ Refused OverReference 5) × (less 6 5 (Refused Cut 3) ≡ Refused Cut 3)
-    -- the inputs 7 and 5, by 3 bytes and 1
-    × (pairOf 90 80 7 3 5 1 ≡ Inputs 7 5 4) × (pairSecond 90 80 7 3 (Value 5 1) ≡ Inputs 7 5 4)
+    -- the inputs 7 and 5, by 3 bytes and 1, of the gate 90 and of the gate 7
+    × (pairOf 90 80 7 3 5 1 ≡ Inputs 7 5 4) × (pairOf 7 80 7 3 5 1 ≡ PairRefused ZeroDelta 80) × (pairSecond 90 80 7 3 (Value 5 1) ≡ Inputs 7 5 4)
     × (pairSecond 90 80 7 3 (Refused Cut 2) ≡ PairRefused Cut 2) × (pairFirst [] 90 80 (Refused Cut 2) ≡ PairRefused Cut 2)
-steps = (refl, refl, refl, refl, refl, refl, refl, refl, refl, refl, refl, refl, refl, refl)
+steps = (refl, refl, refl, refl, refl, refl, refl, refl, refl, refl, refl, refl, refl, refl, refl)
 
 -- numbers as they are written: the smallest and the largest of each length, and the largest of 64 and of 56 bits
 pub spelled :

@@ -1,20 +1,21 @@
 -- Laws of refusals: the place that one names, and which of two reasons is given. Assumes nothing.
-use mathlib.Core.Path.{_≡_, refl, subst}
+use mathlib.Core.Path.{_≡_, refl, sym, ap, _∙_, subst}
 use mathlib.Core.Bool.{Bool, true, false, cond, _&&_, and-false}
 use mathlib.Core.List.{List}
-use Prim.Native.Nat.{ℕ, zero, suc, _+_, _%_, _^_, _≤_, _<_}
+use Prim.Native.Nat.{ℕ, zero, suc, _+_, _-_, _%_, _^_, _≤_, _<_}
 use native.Mathlib.Omega.{arith}
 use lib.Dec.{ltb, leb, eqb}
 use lib.ListN.{length, getD, take, drop}
 use borrow.Author.Tests.{le-leb, lt-leb, le-ltb, eq-eqb, ne-eqb, eqb-true, eqb-false}
-use Rattle.token.specs.Format.{decimalValue}
-use Rattle.token.specs.Answer.{digitsAt, uintOf, uintAt, binaryOf, binaryAt, goOnAt, deltaAt, less, within, headerFieldAt, litAt, symbolIndexAt, pairAt, pairFirst, pairSecond}
+use Rattle.token.specs.Format.{decimalValue, groupsValue}
+use Rattle.token.specs.Answer.{digitsAt, uintOf, uintAt, binaryOf, binaryAt, goOnAt, deltaAt, less, within, headerFieldAt, litAt, symbolIndexAt, pairAt, pairOf, pairFirst, pairSecond}
 use Rattle.token.specs.declared.Reason.{Reason}
-use Rattle.token.specs.declared.Reason.the-variants.{LeadingZero, OverWidth, OverLimit, AssignsZero, AssignsOdd}
+use Rattle.token.specs.declared.Reason.the-variants.{LeadingZero, OverWidth, OverLimit, AssignsZero, AssignsOdd, Cut, TooLong, OverReference, ZeroDelta}
 use Rattle.token.specs.declared.Token.{Token}
 use Rattle.token.specs.declared.Token.the-variants.{Value, Refused}
-use Rattle.token.specs.declared.PairToken.the-variants.{PairRefused}
-use Rattle.token.specs.Claims.{Everyone, NamesPlace, RefusedDelta, first, second}
+use Rattle.token.specs.declared.PairToken.the-variants.{Inputs, PairRefused}
+use Rattle.token.specs.Claims.{Everyone, NamesPlace, ZeroFirst, RefusedDelta, first, second, firstZero}
+use Rattle.token.proofs.Deltas.{delta-from}
 
 -- which reason
 
@@ -142,7 +143,17 @@ pair-place s at code why place e = go (deltaAt s at code) refl e
   where
     then : (a n : ℕ) → deltaAt s at code ≡ Value a n → (t : Token) → deltaAt s (at + n) a ≡ t → pairSecond code at a n t ≡ PairRefused why place
         → RefusedDelta s at code why place
-    then a n f (Value b m) g q = let z : _≡_ {A = ℕ} 0 1 = cc in absurd (omega arith)
+    then a n f (Value b m) g q = last (eqb a code) refl q
+      where
+        last : (z : Bool) → eqb a code ≡ z → cond z (PairRefused ZeroDelta at) (Inputs a b (n + m)) ≡ PairRefused why place → RefusedDelta s at code why place
+        last false h q′ = let z : _≡_ {A = ℕ} 0 1 = cc in absurd (omega arith)
+        last true h q′ =
+            let same : a ≡ code = eqb-true a code h in
+            let none : code - a ≡ 0 = omega arith in
+            let reads : binaryAt s at ≡ Value 0 n = delta-from s at code a n f .1 ∙ ap (λ (d : ℕ). Value d n) none in
+            let w : why ≡ ZeroDelta = cc in
+            let p : place ≡ at = cc in
+            firstZero (record { n = n; b = b; m = m; first = reads; second = ap (deltaAt s (at + n)) (sym same) ∙ g }) w p
     then a n f (Refused w p) g q =
         let r : deltaAt s (at + n) a ≡ Refused why place = cc in
         second a n f r (named (at + n) (deltaAt s (at + n) a) why place (delta-place s (at + n) a) r)
@@ -152,3 +163,41 @@ pair-place s at code why place e = go (deltaAt s at code) refl e
     go (Refused w p) f q =
         let r : deltaAt s at code ≡ Refused why place = cc in
         first r (named at (deltaAt s at code) why place (delta-place s at code) r)
+
+-- a first delta of zero
+
+-- a delta by itself is never refused for being zero
+not-zero : (s : List ℕ) (at reference place : ℕ) → deltaAt s at reference ≡ Refused ZeroDelta place → ⊥
+unfolding deltaAt binaryAt
+not-zero s at reference place e = go (leb 8 k) (leb (length bs) k) e
+  where
+    bs : List ℕ
+    bs = take 8 (drop at s)
+
+    k : ℕ
+    k = goOnAt s at
+
+    fits : (d n : ℕ) (x : Bool) → cond x (Value (reference - d) n) (Refused OverReference at) ≡ Refused ZeroDelta place → ⊥
+    fits d n true f = let z : _≡_ {A = ℕ} 0 1 = cc in omega arith
+    fits d n false f = let z : _≡_ {A = ℕ} 0 1 = cc in omega arith
+
+    go : (x y : Bool) → less reference at (cond x (Refused TooLong at) (cond y (Refused Cut at) (Value (groupsValue (take (k + 1) bs)) (k + 1))))
+        ≡ Refused ZeroDelta place → ⊥
+    go true y f = let z : _≡_ {A = ℕ} 0 1 = cc in omega arith
+    go false true f = let z : _≡_ {A = ℕ} 0 1 = cc in omega arith
+    go false false f = fits (groupsValue (take (k + 1) bs)) (k + 1) (leb (groupsValue (take (k + 1) bs)) reference) f
+
+pub zero-first : (s : List ℕ) (at code place : ℕ) → pairAt s at code ≡ PairRefused ZeroDelta place → ZeroFirst s at code × (place ≡ at)
+zero-first s at code place e = go (pair-place s at code ZeroDelta place e)
+  where
+    go : RefusedDelta s at code ZeroDelta place → ZeroFirst s at code × (place ≡ at)
+    go (first r p) = absurd (not-zero s at code place r)
+    go (second a n f r p) = absurd (not-zero s (at + n) a place r)
+    go (firstZero z w p) = (z, p)
+
+pub zero-refused : (s : List ℕ) (at code : ℕ) → ZeroFirst s at code → pairAt s at code ≡ PairRefused ZeroDelta at
+unfolding pairAt deltaAt
+zero-refused s at code z =
+    let all : code - 0 ≡ code = omega arith in
+    let whole : deltaAt s at code ≡ Value code (z .n) = rw (z .first, le-leb 0 code (omega arith), all) in
+    rw (whole, z .second, eq-eqb code code refl)

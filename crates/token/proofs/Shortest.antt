@@ -15,6 +15,7 @@ use Rattle.token.specs.Answer.{goOnAt, binaryOf, binaryAt, deltaAt, pair
 use Rattle.token.specs.declared.Token.the-variants.{Value}
 use Rattle.token.specs.declared.PairToken.the-variants.{Inputs}
 use Rattle.token.proofs.Groups.{eightAt, groups-lt}
+use Rattle.token.specs.Claims.{Paired}
 use Rattle.token.proofs.Deltas.{binary-read, binary-used, pair-of}
 
 -- grouped bytes are read
@@ -86,7 +87,7 @@ delta-reads-back reference v h small before after =
     let back : reference - (reference - v) ≡ v = omega arith in
     rw (shortest-reads-back (reference - v) small before after, le-leb (reference - v) reference (omega arith), back)
 
-pub pair-reads-back : (code a b : ℕ) → b ≤ a → a ≤ code → code < 2 ^ 56 → (before after : List ℕ)
+pub pair-reads-back : (code a b : ℕ) → b ≤ a → a < code → code < 2 ^ 56 → (before after : List ℕ)
     → pairAt (before ++ (shortest (code - a) ++ (shortest (a - b) ++ after))) (length before) code
     ≡ Inputs a b (length (shortest (code - a)) + length (shortest (a - b)))
 pair-reads-back code a b h k small before after =
@@ -95,7 +96,15 @@ pair-reads-back code a b h k small before after =
     let joined : before ++ (x ++ (y ++ after)) ≡ (before ++ x) ++ (y ++ after) = sym (append-assoc before x (y ++ after)) in
     let next : deltaAt (before ++ (x ++ (y ++ after))) (length before + length x) a ≡ Value b (length y)
     = rw (joined, ← length-append before x) (delta-reads-back a b h (omega arith) (before ++ x) after) in
-    pair-of (before ++ (x ++ (y ++ after))) (length before) code a b (length x) (length y) (delta-reads-back code a k (omega arith) before (y ++ after)) next
+    pair-of (before ++ (x ++ (y ++ after))) (length before) code a b (length x + length y)
+    (record {
+      n = length x;
+      m = length y;
+      first = delta-reads-back code a (omega arith) (omega arith) before (y ++ after);
+      second = next;
+      below = k;
+      bytes = refl;
+    })
 
 -- no bytes that write the same are fewer, and grouped ones of the same length are the same
 

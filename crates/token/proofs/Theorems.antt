@@ -1,13 +1,14 @@
 -- The theorems of the number tokens. What each rests on stands in the laws' files beside this one; the examples stand in Pins.antt. Assumes nothing.
 use mathlib.Core.Path.{_≡_, refl, sym, _∙_}
 use mathlib.Core.Bool.{Bool, true, false}
+use mathlib.Core.Logic.{_↔_}
 use mathlib.Core.List.{List, [], _∷_, _++_}
 use Prim.Native.Nat.{ℕ, _+_, _-_, _%_, _^_, _≤_, _<_}
 use lib.ListN.{length, getD, take, drop}
 use Rattle.token.specs.Format.{leading, isDigit, decimalValue, groupsValue, Grouped, digitsOf, shortest, Bytes}
 use Rattle.token.specs.Answer.{digitsAt, uintAt, goOnAt, binaryAt, deltaAt, within, assigned, headerFieldAt, litAt, symbolIndexAt, pairAt, tokenNumber, pairNumber}
 use Rattle.token.specs.declared.Reason.{Reason}
-use Rattle.token.specs.declared.Reason.the-variants.{NoDigit, LeadingZero, OverWidth, OverLimit, AssignsZero, AssignsOdd, Cut, OverReference}
+use Rattle.token.specs.declared.Reason.the-variants.{NoDigit, LeadingZero, OverWidth, OverLimit, AssignsZero, AssignsOdd, Cut, OverReference, ZeroDelta}
 use Rattle.token.specs.declared.Token.the-variants.{Value, Refused}
 use Rattle.token.specs.declared.PairToken.the-variants.{Inputs, PairRefused}
 use Rattle.promise.specs.Determined.{Determines}
@@ -31,7 +32,7 @@ use Rattle.token.proofs.symbol_index.Kinds as symbol-index-kinds
 use Rattle.token.proofs.symbol_index.Reads as symbol-index-contract
 use Rattle.token.proofs.pair.Kinds as pair-kinds
 use Rattle.token.proofs.pair.Reads as pair-contract
-use Rattle.token.specs.Claims.{Used, PairUsed, DecimalUsed, NamesPlace, RefusedDelta, Everyone}
+use Rattle.token.specs.Claims.{Used, PairUsed, DecimalUsed, NamesPlace, Paired, ZeroFirst, RefusedDelta, Everyone}
 
 -- 1. Each contract determines its answer: of any two answers that it allows for the same bytes, place and numbers, each is the other.
 
@@ -84,7 +85,7 @@ pub shortest-is-only : (s : List ℕ) (at d n : ℕ) → Bytes s → binaryAt s 
 shortest-is-only s at d n small e = groups.shortest-only s at d n e small
 
 -- a gate's pair in shortest deltas reads back
-pub pair-reads-back : (code a b : ℕ) → b ≤ a → a ≤ code → code < 2 ^ 56 → (before after : List ℕ)
+pub pair-reads-back : (code a b : ℕ) → b ≤ a → a < code → code < 2 ^ 56 → (before after : List ℕ)
     → pairAt (before ++ (shortest (code - a) ++ (shortest (a - b) ++ after))) (length before) code
     ≡ Inputs a b (length (shortest (code - a)) + length (shortest (a - b)))
 pair-reads-back = groups.pair-reads-back
@@ -118,8 +119,12 @@ decimal-uses = spelling.decimal-used
 pub pair-uses : (s : List ℕ) (at code a b used : ℕ) → pairAt s at code ≡ Inputs a b used → PairUsed s at used
 pair-uses = deltas.pair-used
 
--- a pair's second input is at most its first, and that at most the output's code
-pub pair-falls : (s : List ℕ) (at code a b used : ℕ) → pairAt s at code ≡ Inputs a b used → (b ≤ a) × (a ≤ code)
+-- a pair is read exactly when both deltas are and the first is not zero
+pub pair-exactly : (s : List ℕ) (at code a b used : ℕ) → (pairAt s at code ≡ Inputs a b used) ↔ Paired s at code a b used
+pair-exactly s at code a b used = (deltas.pair-read s at code a b used, deltas.pair-of s at code a b used)
+
+-- so its second input is at most its first, and that below the output's code
+pub pair-falls : (s : List ℕ) (at code a b used : ℕ) → pairAt s at code ≡ Inputs a b used → (b ≤ a) × (a < code)
 pair-falls = deltas.pair-falls
 
 -- 5. Refusals.
@@ -144,6 +149,10 @@ tokens-name-the-place s at = (
 -- a pair that refuses names the first byte of the delta that caused it, with that delta's reason
 pub pair-names-the-delta : (s : List ℕ) (at code : ℕ) (why : Reason) (place : ℕ) → pairAt s at code ≡ PairRefused why place → RefusedDelta s at code why place
 pair-names-the-delta = refusals.pair-place
+
+-- 20 is given exactly where both deltas are read and the first writes zero, and it names the first
+pub zero-exactly : (s : List ℕ) (at code place : ℕ) → (pairAt s at code ≡ PairRefused ZeroDelta place) ↔ (ZeroFirst s at code × (place ≡ at))
+zero-exactly s at code place = (refusals.zero-first s at code place, λ z. rw (z .1) (refusals.zero-refused s at code (z .0)))
 
 -- two or more digits that begin with `0` are 11, whoever reads them and whether they fit 64 bits or not
 pub leading-zero-first : (s : List ℕ) (at : ℕ) → 2 ≤ digitsAt s at → getD s at 0 ≡ 48 → Everyone s at (Refused LeadingZero at)

@@ -1,4 +1,4 @@
--- What each number token answers at a place of a list of bytes, and document 01's number for each reason to refuse. A place past the end
+-- What each number token answers at a place of a list of bytes, and the documents' number for each reason to refuse. A place past the end
 -- reads as the end: no byte stands from it on. A refusal consumes nothing and names the place given. Assumes nothing.
 use Prim.Native.Nat.{ℕ, _+_, _-_, _%_, _^_}
 use mathlib.Core.Bool.{Bool, cond, _&&_}
@@ -7,7 +7,7 @@ use lib.Dec.{ltb, leb, eqb}
 use lib.ListN.{length, getD, take, drop}
 use Rattle.token.specs.Format.{leading, isDigit, goesOn, decimalValue, groupsValue}
 use Rattle.token.specs.declared.Reason.{Reason}
-use Rattle.token.specs.declared.Reason.the-variants.{NoDigit, LeadingZero, OverWidth, OverLimit, AssignsZero, AssignsOdd, Cut, TooLong, OverReference}
+use Rattle.token.specs.declared.Reason.the-variants.{NoDigit, LeadingZero, OverWidth, OverLimit, AssignsZero, AssignsOdd, Cut, TooLong, OverReference, ZeroDelta}
 use Rattle.token.specs.declared.Token.{Token}
 use Rattle.token.specs.declared.Token.the-variants.{Value, Refused}
 use Rattle.token.specs.declared.PairToken.{PairToken}
@@ -15,7 +15,7 @@ use Rattle.token.specs.declared.PairToken.the-variants.{Inputs, PairRefu
 
 -- numbers of refusals
 
--- document 01's number for each reason; a number that does not fit 64 bits and one over its limit share 12
+-- the documents' number for each reason; a number that does not fit 64 bits and one over its limit share 12
 abbrev pub reasonNumber : Reason → ℕ
 reasonNumber NoDigit = 10
 reasonNumber LeadingZero = 11
@@ -26,6 +26,7 @@ reasonNumber AssignsOdd = 14
 reasonNumber Cut = 15
 reasonNumber TooLong = 16
 reasonNumber OverReference = 17
+reasonNumber ZeroDelta = 20
 
 -- the number of a token's refusal, 0 where it is read
 abbrev pub tokenNumber : Token → ℕ
@@ -108,10 +109,10 @@ symbolIndexAt s at limit = within limit at (uintAt s at)
 
 -- a gate's pair
 
--- the last step of a pair, both deltas read: the first input and the n bytes of its delta, the second and the m of its own; the output's code
--- and the pair's place are here for a test of the whole pair
+-- the last step of a pair, both deltas read: the first input and the n bytes of its delta, the second and the m of its own. A first input that is
+-- the output's code feeds the gate by itself: its delta is zero, by whatever bytes
 abbrev pub pairOf : ℕ → ℕ → ℕ → ℕ → ℕ → ℕ → PairToken
-pairOf code at first n second m = Inputs first second (n + m)
+pairOf code at first n second m = cond (eqb first code) (PairRefused ZeroDelta at) (Inputs first second (n + m))
 
 -- the first input is read, by n bytes: then the second as it is read
 abbrev pub pairSecond : ℕ → ℕ → ℕ → ℕ → Token → PairToken
@@ -123,6 +124,6 @@ abbrev pub pairFirst : List ℕ → ℕ → ℕ → Token → PairToken
 pairFirst s code at (Value first n) = pairSecond code at first n (deltaAt s (at + n) first)
 pairFirst s code at (Refused why place) = PairRefused why place
 
--- a gate's two inputs: the first from the output's code, the second from the first
+-- a gate's two inputs: the first below the output's code, the second from the first
 unfoldable pub pairAt : List ℕ → ℕ → ℕ → PairToken
 pairAt s at code = pairFirst s code at (deltaAt s at code)

@@ -22,6 +22,7 @@ pub enum Reason {
     Cut,
     TooLong,
     OverReference,
+    ZeroDelta,
 }
 
 // A number and the bytes it took, or why there is none and where.
@@ -43,7 +44,7 @@ pub enum PairToken {
     },
 }
 
-// Document 01's number of a reason.
+// The documents' number of a reason.
 pub fn number(why: Reason) -> u32
     ensures { λ r. ⌜ r ≡ reasonNumber why ⌝ }
 {
@@ -57,6 +58,7 @@ pub fn number(why: Reason) -> u32
         Reason::Cut => 15,
         Reason::TooLong => 16,
         Reason::OverReference => 17,
+        Reason::ZeroDelta => 20,
     }
 }
 
@@ -263,12 +265,17 @@ pub fn symbol_index(s: &[u8], at: usize, limit: u64) -> Token
     held_to(index, limit, at)
 }
 
-// The last step of a pair, both deltas read by n and by m bytes: where a test stands that looks at both inputs, the output's code or the
-// pair's place.
+// The last step of a pair, both deltas read by n and by m bytes: 20 at the pair's place for a first input that is the output's code.
 fn inputs(code: u64, at: usize, first: u64, n: usize, second: u64, m: usize) -> PairToken
     requires { ⌜ (n ≤ 8) × (m ≤ 8) ⌝ }
     ensures { λ r. ⌜ r ≡ pairOf code at first n second m ⌝ }
 {
+    if first == code {
+        return PairToken::PairRefused {
+            why: Reason::ZeroDelta,
+            place: at,
+        };
+    }
     PairToken::Inputs {
         first,
         second,
@@ -276,7 +283,8 @@ fn inputs(code: u64, at: usize, first: u64, n: usize, second: u64, m: usize) -> 
     }
 }
 
-// A gate's two inputs: the first from the output's code, the second from the first.
+// A gate's two inputs, the first from the output's code, the second from the first: 15, 16 and 17 as `delta_code`, and then 20 for a first delta of
+// zero.
 pub fn pair(s: &[u8], at: usize, code: u64) -> PairToken
     ensures { λ r. ⌜ r ≡ pairAt (now (s .entry)) at code ⌝ }
 {

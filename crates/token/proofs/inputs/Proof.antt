@@ -1,14 +1,18 @@
--- `inputs` meets its contract: two deltas of at most eight bytes have at most sixteen, so that their sum does not wrap. Assumes nothing.
-use mathlib.Core.Path.{refl}
+-- `inputs` meets its contract: its test is that of `pairOf`, and two deltas of at most eight bytes have at most sixteen, so that their sum does not
+-- wrap. Assumes nothing.
 use native.Mathlib.Omega.{arith}
+use borrow.Author.Tests.{eq-eqb, ne-eqb}
 use Rattle.token.proofs.inputs.Statement.{statement}
 use Rattle.token.proofs.inputs.Tie as tie
 
-add-t7 : tie.Need-add-t7
-add-t7 c = omega arith
+add-t9 : tie.Need-add-t9
+add-t9 c = omega arith
 
 returns : tie.Need-returns
-returns c = refl
+returns c = simp (eq-eqb _ _ (c .if1 .taken))
+
+returns-2 : tie.Need-returns-2
+returns-2 c = simp (ne-eqb _ _ (c .if1 .left))
 
 pub inputs-spec : {M : Type 1} → statement M
-inputs-spec = tie.close (tie.spec add-t7 returns)
+inputs-spec = tie.close (tie.spec returns add-t9 returns-2)

@@ -64,9 +64,10 @@ impl Reader<'_> {
         byte % 128 + if byte < 128 { 0 } else { 128 * self.groups() }
     }
 
-    /// A gate of the binary form, by two deltas.
+    /// A gate of the binary form, by two deltas, the first of which is above 0.
     fn deltas(&mut self, output: u64) -> [u64; 3] {
         let first = output.checked_sub(self.groups()).expect("a delta within its reference");
+        assert!(first < output, "a gate above its inputs");
         let second = first.checked_sub(self.groups()).expect("a delta within its reference");
         [output, first, second]
     }

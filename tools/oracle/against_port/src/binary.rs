@@ -174,7 +174,7 @@ fn circuit_of(circuit: &Ordered, port: &Outcome, expanded: Expanded, flags: u64)
     }
 }
 
-/// The lists have to be those of the crate's own record, and the circuit that they are is renumbered by both.
+/// The lists have to be those of the crate's own record, and the circuit that they are is renumbered by both: a file that is read is not refused there.
 fn renumber(circuit: &Ordered, port: &Outcome, expanded: Expanded, flags: u64) -> Result<(), String> {
     let given = circuit_of(circuit, port, expanded, flags);
     let by_crate = Circuit { flags, ..aiger::circuit_of(&file_crate::record(circuit)) };
@@ -183,9 +183,10 @@ fn renumber(circuit: &Ordered, port: &Outcome, expanded: Expanded, flags: u64) -
     }
     let lists = Lists::lent(&given, [1; 5]);
     let (port, judge) = (outcome::by_port(&given, lists.clone()), outcome::by_crate(&given, lists));
-    match port == judge {
-        true => Ok(()),
-        false => Err(format!("renumbered: {}", outcome::difference(port, judge))),
+    match (port == judge, port.number) {
+        (true, 0) => Ok(()),
+        (true, number) => Err(format!("read, and refused by {number} in renumbering")),
+        (false, _) => Err(format!("renumbered: {}", outcome::difference(port, judge))),
     }
 }
 

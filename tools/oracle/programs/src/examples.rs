@@ -1,4 +1,4 @@
-//! The examples of document 01, of the review of the definitions and of the papers, as data.
+//! The examples of document 01, with request Q-2's, of the review of the definitions and of the papers, as data.
 //!
 //! A circuit is written as document 01 writes it: `gates 6(2,4), 8(2,5)`, `latch 4 8` (state, next), lists
 //! by name, flags by name, `V=2` where V is not the least that passes check 4. Starred ones are those that
@@ -104,7 +104,7 @@ pub const SHEETS: &[(&str, usize, &str)] = &[
     ("00", 60_001, "refused 1 0"),
 ];
 
-/// Questions, with the bytes in words, and document 01's answers.
+/// Questions, with the bytes in words, and the documents' answers.
 pub const TOKENS: &[(&str, &str, &str)] = &[
     ("uint 0 30", "`0`", "V 0 1"),
     ("uint 0 3030", "`00`", "R 11 0"),
@@ -155,10 +155,13 @@ pub const TOKENS: &[(&str, &str, &str)] = &[
     ("delta_code 0 6 80", "*", "R 15 0"),
     ("delta_code 0 6 8080808080808080", "*", "R 16 0"),
     ("delta_code 0 6 8080808080808000", "eight groups", "V 6 8"),
-    ("pair 0 6 0002", "", "P 6 4 2"),
     ("pair 0 6 0202", "", "P 4 2 2"),
+    ("pair 0 6 0200", "a second delta of zero", "P 4 4 2"),
     ("pair 1 6 ff0205", "", "R 17 2"),
     ("pair 0 6 0280", "the second is cut", "R 15 1"),
+    ("pair 0 6 00", "zero, and no second", "R 15 1"),
+    ("pair 0 6 0007", "zero, and the second over it", "R 17 1"),
+    ("pair 0 6 80008080808080808080", "zero, and the second too long", "R 16 2"),
     // The paper's table of numbers in seven-bit groups.
     ("binary_uint 0 00", "0", "V 0 1"),
     ("binary_uint 0 01", "1", "V 1 1"),
@@ -221,6 +224,15 @@ pub const CONSUMED: &[(&str, &str)] = &[
     ("pair 0 6 0205", "17 of a pair's second delta"),
 ];
 
+/// Pairs that the crate alone takes and document 02 refuses: the output is not above its first input.
+pub const PAIRS_ALONE: &[(&str, &str)] = &[
+    ("pair 0 6 0002", "R 20 0"),
+    ("pair 0 6 800002", "R 20 0"),
+    ("pair 0 6 0000", "R 20 0"),
+    ("pair 1 6 ff0002", "R 20 1"),
+    ("pair 0 0 0000", "R 20 0"),
+];
+
 /// Circuits that the crate alone takes and document 01 refuses: its checks 4 and 6 are added.
 pub const CRATE_ALONE: &[(&str, &str)] = &[
     ("V=0, input 2, root 3", "refused 4 2"),
@@ -243,6 +255,11 @@ pub const KNOWN: &[(&str, &str)] = &[
     ("pair 0 6 0280", MOVED_ON),
     ("pair 0 6 028080808080808080", MOVED_ON),
     ("pair 0 6 0205", MOVED_ON),
+    ("pair 0 6 0002", ZERO_FIRST),
+    ("pair 0 6 800002", ZERO_FIRST),
+    ("pair 0 6 0000", ZERO_FIRST),
+    ("pair 1 6 ff0002", ZERO_FIRST),
+    ("pair 0 0 0000", ZERO_FIRST),
     (
         "V=0, input 2, root 3",
         "the crate ignores max_var_index: the code limit is added",
@@ -255,4 +272,5 @@ pub const KNOWN: &[(&str, &str)] = &[
 ];
 
 const MOVED_ON: &str = "the crate has moved on before the test";
+const ZERO_FIRST: &str = "the crate takes a first delta of zero: the test is added";
 const NO_LATCH_CHECK: &str = "the crate maps the latch's variable anew: the latch check is added";

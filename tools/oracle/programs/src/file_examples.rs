@@ -33,12 +33,23 @@ pub const CASES: &[(&[u8], u64, usize)] = &[
     (b"aig 2 1 1 0 0\n2 6\n", 12, 16),
     (b"aig 2 1 1 0 0\n2 3", 18, 17),
     (b"aig 2 1 1 0 0\n2 \n", 10, 16),
-    (b"aig 3 2 0 1 1\n6\n\0\x02", 0, 18),
-    (b"aig 3 2 0 1 1\n6\n\x80\0\x02", 0, 19),
+    (b"aig 3 2 0 1 1\n6\n\0\x02", 20, 16),
+    (b"aig 3 2 0 1 1\n6\n\x80\0\x02", 20, 16),
     (b"aig 3 2 0 1 1\n6\n\0", 15, 17),
     (b"aig 3 2 0 1 1\n6\n\0\x07", 17, 17),
     (b"aig 3 2 0 1 1\n6\n\x02\x02junk", 0, 18),
     (b"aig 3 2 0 1 1\n8\n\x02\x02", 12, 14),
+    // first deltas of zero in other spellings, before a second delta that is refused and before one that is zero too
+    (b"aig 3 2 0 1 1\n6\n\x80\x80\x80\x80\x80\x80\x80\0\x02", 20, 16),
+    (b"aig 3 2 0 1 1\n6\n\x80\0", 15, 18),
+    (b"aig 3 2 0 1 1\n6\n\x80\0\x07", 17, 18),
+    (b"aig 3 2 0 1 1\n6\n\0\x80", 15, 17),
+    (b"aig 3 2 0 1 1\n6\n\0\x80\x80\x80\x80\x80\x80\x80\x80", 16, 17),
+    (b"aig 3 2 0 1 1\n6\n\0\0", 20, 16),
+    // a second delta of zero alone is good; a first one in the second gate, in the smallest file
+    (b"aig 3 2 0 1 1\n6\n\x02\0", 0, 18),
+    (b"aig 4 2 0 1 2\n6\n\x02\x02\0\x02", 20, 18),
+    (b"aig 1 0 0 0 1\n\0\x02", 20, 14),
     // the papers' half adder
     (b"aig 5 2 0 2 3\n10\n6\n\x02\x02\x03\x02\x01\x02", 0, 25),
 ];

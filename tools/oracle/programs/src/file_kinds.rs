@@ -92,19 +92,52 @@ fn latch(random: &mut Random, codes: u64, own: u64, judged: bool) -> String {
     }
 }
 
-/// A gate's two deltas: small, any, or 0; some with groups more than they need, up to the eighth byte.
+/// A gate's two deltas: small, any, or the least, which is 1 for the first and 0 for the second; some with groups more than they need, up to the eighth byte.
 fn gate(random: &mut Random, bytes: &mut Vec<u8>, output: u64) {
     let mut reference = output;
-    for _ in 0..2 {
+    for smallest in [1, 0] {
         let delta = match random.below(8) {
-            0 => 0,
-            1..=3 => random.below(reference + 1),
-            _ => random.below(reference.min(150) + 1),
+            0 => smallest,
+            1..=3 => random.between(smallest, reference),
+            _ => random.between(smallest, reference.min(150)),
         };
         let least = if random.percent(4) { random.between(2, 8) } else { 1 };
         put(bytes, delta, least as usize);
         reference -= delta;
     }
+}
+
+/// A first delta of zero in one of the gates, in one byte or in more. The second delta stays, and is read from the gate's own code; or it is any number, too
+/// long, or cut, where the file ends.
+fn zero_delta(random: &mut Random, parts: &mut Parts) {
+    let gates = &mut parts.gates;
+    let mut starts = vec![0];
+    starts.extend((0..gates.len()).filter(|&at| gates[at] < 128).map(|at| at + 1));
+    let pairs = (starts.len() - 1) / 2;
+    if pairs == 0 {
+        return;
+    }
+    let first = 2 * random.index(pairs);
+    let mut zero = vec![];
+    put(&mut zero, 0, random.pick(&[1, 1, 1, 2, 2, 3, 8]));
+    let end = match random.below(10) {
+        0 => {
+            let value = random.bits(56);
+            put(&mut zero, value, 1);
+            starts[first + 2]
+        }
+        1 => {
+            put(&mut zero, 0, 9);
+            starts[first + 2]
+        }
+        2 => {
+            zero.extend(random.pick(&[&[][..], &[0x80], &[0x83, 0x80]]));
+            parts.after.clear();
+            gates.len()
+        }
+        _ => starts[first + 1],
+    };
+    gates.splice(starts[first]..end, zero);
 }
 
 /// Where numbers change their answer, beside those near a file's own.
@@ -128,7 +161,7 @@ fn a_number<'a>(random: &mut Random, parts: &'a mut Parts) -> &'a mut String {
 type Fault = fn(&mut Random, &mut Parts);
 
 /// Faults in the parts, each with its share.
-const FAULTS: [(u64, Fault); 16] = [
+const FAULTS: [(u64, Fault); 17] = [
     (10, |random, parts| *a_number(random, parts) = random.pick(&EDGES).to_string()),
     (10, |random, parts| {
         // one more, one less, or next to the largest literal
@@ -173,6 +206,7 @@ const FAULTS: [(u64, Fault); 16] = [
             parts.lines[count(3) + first] = (LIMIT - rest.min(9) + random.below(3) - 1).to_string();
         }
     }),
+    (20, zero_delta),
     (5, |random, parts| {
         // a delta of eight or nine bytes, or one over any reference, somewhere among the gates
         let mut delta = vec![];
@@ -286,7 +320,7 @@ fn endings(beginning: &[u8], alphabet: &[u8], most: u32, mut tell: impl FnMut(&[
 }
 
 /// A file for every shape of header with up to two inputs, latches and gates and up to one of each kind of root, the counts spelled in every length, cut at each of
-/// its bytes; and M one more.
+/// its bytes; and M one more, or a first delta of zero.
 pub fn shapes(random: &mut Random, mut tell: impl FnMut(&[u8])) {
     for choice in 0..27 * 32 * 5u64 {
         let [inputs, latches, gates] = [1, 3, 9].map(|power| choice / power % 3);
@@ -297,6 +331,11 @@ pub fn shapes(random: &mut Random, mut tell: impl FnMut(&[u8])) {
         let bytes = parts.bytes();
         for length in 0..=bytes.len() {
             tell(&bytes[..length]);
+        }
+        if gates > 0 {
+            let mut other = parts.clone();
+            zero_delta(random, &mut other);
+            tell(&other.bytes());
         }
         parts.header[1] = (inputs + latches + gates + 1).to_string();
         tell(&parts.bytes());
@@ -338,8 +377,13 @@ pub fn large(random: &mut Random, mut tell: impl FnMut(&[u8])) {
         text += &format!("{size}\n").repeat(sets as usize);
         text += &"1\n".repeat((sets * size + more) as usize);
         let mut bytes = text.into_bytes();
-        bytes.resize(bytes.len() + 2 * LIMIT as usize, 0);
+        bytes.extend([1, 0].repeat(LIMIT as usize));
         tell(&bytes);
         tell(&bytes[..bytes.len() - 1]);
+    }
+    // a first delta of zero in the last gate there can be
+    for last in [&[0, 1][..], &[0x80, 0, 1]] {
+        let header = format!("aig {LIMIT} 0 0 0 {LIMIT}\n").into_bytes();
+        tell(&[&header, &[1, 0].repeat(LIMIT as usize - 1)[..], last].concat());
     }
 }

@@ -1,5 +1,5 @@
-//! Request Q-1, the binary file, read as document 02's words have it and not as the crate's code does. By the other `Rules` it reads as the crate would, were the
-//! lines of docs/DIFFERENCES.md all that sets the two apart: so that those lines can be held to the crate, each by itself.
+//! Requests, the binary file, read as document 02's words have it and not as the crate's code does. By the other `Rules` it reads as the crate
+//! would, were the lines of docs/DIFFERENCES.md all that sets the two apart: so that those lines can be held to the crate, each by itself.
 
 /// Every count and size of the request is at most this, and so are the roots.
 pub const LIMIT: u64 = 1_048_575;
@@ -22,6 +22,7 @@ pub enum Line {
     TooMany,
     Short,
     Reset,
+    Zero,
 }
 
 impl Line {
@@ -36,6 +37,7 @@ impl Line {
             Line::TooMany => "more than 1,048,575 roots (1)",
             Line::Short => "a lent list too short (3)",
             Line::Reset => "a reset that is not 0, 1 or the latch, which the crate refuses",
+            Line::Zero => "a first delta that is zero (20)",
         }
     }
 }
@@ -263,6 +265,18 @@ impl Reader<'_> {
         self.refuse(16, None)
     }
 
+    /// A gate's two inputs. That the first is the output itself is told once both are read, and where the first delta stands.
+    fn pair(&mut self, output: u64) -> Part<[u64; 2]> {
+        let place = self.place;
+        let first = self.delta(output)?;
+        let second = self.delta(first)?;
+        if self.rules == Rules::Request && first == output {
+            self.place = place;
+            return self.refuse(20, Some(Line::Zero));
+        }
+        Ok([first, second])
+    }
+
     fn file(&mut self, room: Room) -> Part<Ordered> {
         let header = self.header()?;
         self.fits(&header, room)?;
@@ -285,9 +299,7 @@ impl Reader<'_> {
         circuit.roots.extend(self.literals(fairness, largest)?);
         circuit.roots.extend(justice);
         for index in 0..gates {
-            let first = self.delta(2 * (inputs + latches + 1 + index))?;
-            let second = self.delta(first)?;
-            circuit.gates.extend([first, second]);
+            circuit.gates.extend(self.pair(2 * (inputs + latches + 1 + index))?);
         }
         Ok(circuit)
     }

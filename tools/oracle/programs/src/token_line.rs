@@ -17,6 +17,16 @@ pub struct Answer {
     pub consumed: usize,
 }
 
+/// The documents' answer, which is the crate's but on one line of docs/DIFFERENCES.md: a pair that the crate takes with
+/// the output's own code for its first input, so with a first delta of zero, is refused by 20 at its place.
+pub fn documented(question: &Question) -> String {
+    let Answer { text, .. } = answer(question);
+    match question.arguments[..] {
+        [code] if text.starts_with(&format!("P {code} ")) => format!("R 20 {}", question.place),
+        _ => text,
+    }
+}
+
 /// What a question asks for, taken apart.
 pub struct Question {
     pub function: String,

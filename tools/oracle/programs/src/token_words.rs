@@ -1,11 +1,11 @@
-//! Document 01's token rules written from its words and not from the crate, as answers to the same
-//! questions. Where an answer differs from the crate's, document 01 and the crate differ.
+//! Document 01's token rules, and request Q-2's of the pair, written from their words and not from the crate, as answers to the same
+//! questions. Where an answer differs from the crate's, the documents and the crate differ.
 use crate::token_line::Question;
 
 /// A number and the bytes used, or a refusal's number.
 type Read = Result<(u64, usize), u64>;
 
-/// Document 01's answer.
+/// The documents' answer.
 pub fn answer(question: &Question) -> String {
     let rest = question.rest();
     let argument = |index: usize| question.arguments[index];
@@ -72,14 +72,15 @@ fn delta(bytes: &[u8], reference: u64) -> Read {
     Ok((code, used))
 }
 
-/// Two deltas; a refusal names the first byte of the delta that caused it.
+/// Two deltas; a refusal names the first byte of the delta that caused it. That the first delta is 0 is told once both are read.
 fn pair(bytes: &[u8], code: u64, place: u64) -> String {
     let (first, used) = match delta(bytes, code) {
         Ok(read) => read,
         Err(number) => return format!("R {number} {place}"),
     };
     match delta(&bytes[used..], first) {
-        Ok((second, more)) => format!("P {first} {second} {}", used + more),
         Err(number) => format!("R {number} {}", place + used as u64),
+        Ok(_) if first == code => format!("R 20 {place}"),
+        Ok((second, more)) => format!("P {first} {second} {}", used + more),
     }
 }

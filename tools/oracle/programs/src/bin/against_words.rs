@@ -1,9 +1,9 @@
-//! The crate against document 01's words, and how high the crate's stack grows.
+//! The crate against the documents' words, and how high the crate's stack grows.
 //!
 //!     against_words small                         every circuit of up to two gates, and most of three
 //!     against_words random SEED COUNT MAXGATES    random circuits that pass checks 1 to 4
 //!     against_words deep                          the circuit that fills the stack, up to 1,048,575 gates
-//!     against_words tokens < questions            questions about tokens
+//!     against_words tokens < questions            questions about tokens; of pairs with the difference that is listed
 //!
 //! The exit status is 1 if there is a disagreement.
 use judge::{circuit::Circuit, circuit_kinds, random::Random, sheet, walk_words};
@@ -142,7 +142,7 @@ fn tokens(tally: &mut Tally) {
     for line in std::io::stdin().lock().lines() {
         let line = line.expect("lines of text");
         let question = token_line::Question::parse(&line);
-        let by_crate = token_line::answer(&question).text;
+        let by_crate = token_line::documented(&question);
         let by_words = token_words::answer(&question);
         let kind = match by_words.split(' ').collect::<Vec<_>>()[..] {
             ["R", number, _] => format!("refused {number}"),

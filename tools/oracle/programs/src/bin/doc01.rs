@@ -1,4 +1,4 @@
-//! Every example of document 01, of the review of the definitions and of the papers, asked of the crate.
+//! Every example of document 01, with request Q-2's pairs, of the review of the definitions and of the papers, asked of the crate.
 //!
 //!     doc01
 //!
@@ -10,7 +10,7 @@ use flussab_aiger::{
 };
 use judge::{
     circuit::Circuit,
-    examples::{CIRCUITS, CONSUMED, CRATE_ALONE, HALF_ADDER, KNOWN, SHEETS, TEXTS, TOKENS},
+    examples::{CIRCUITS, CONSUMED, CRATE_ALONE, HALF_ADDER, KNOWN, PAIRS_ALONE, SHEETS, TEXTS, TOKENS},
     hex, sheet,
     token_line::{answer, Question},
     walk_words,
@@ -58,6 +58,11 @@ fn main() {
         let consumed = answer(&Question::parse(question)).consumed;
         let name = format!("{question}: bytes consumed after {words}");
         tally.note(&name, "0", &consumed.to_string(), known(question));
+    }
+    for (question, expected) in PAIRS_ALONE {
+        let name = format!("{question}: the crate alone");
+        let answer = answer(&Question::parse(question)).text;
+        tally.note(&name, expected, &answer, known(question));
     }
     for (words, expected) in CRATE_ALONE {
         let name = format!("{words}: the crate alone");
