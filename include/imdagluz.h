@@ -17,9 +17,9 @@
 #include <stdint.h>
 
 /* The version of this header and of the archive that belongs to it. */
-#define IMDAGLUZ_VERSION "0.2.0"
+#define IMDAGLUZ_VERSION "0.3.0"
 #define IMDAGLUZ_VERSION_MAJOR 0
-#define IMDAGLUZ_VERSION_MINOR 2
+#define IMDAGLUZ_VERSION_MINOR 3
 #define IMDAGLUZ_VERSION_PATCH 0
 
 #ifdef __cplusplus
@@ -29,7 +29,7 @@ extern "C" {
 /* The largest V, I, L, G and R, and so the most words that a list of codes has: lists of this length, gates of pairs twice it, hold every circuit. */
 #define IMDAGLUZ_LIST 1048575
 
-/* Refusal numbers. 0 is success. imdagluz_delta gives 3 and 15 to 17, imdagluz_renumber 1 to 8, imdagluz_read_aig 1, 3, 10 to 12 and 15 to 20,
+/* Refusal numbers. 0 is success. imdagluz_delta gives 3 and 15 to 17, imdagluz_renumber 1 to 8, imdagluz_read_aig 1, 3, 10 to 12 and 15 to 21,
  * imdagluz_expand 1 to 3. No function here gives 13 or 14, which are for a literal that a text file assigns. */
 enum {
     IMDAGLUZ_TOO_BIG = 1,         /* V, I, L, G or R is over 1,048,575 */
@@ -49,7 +49,8 @@ enum {
     IMDAGLUZ_DELTA_OVER = 17,     /* the delta is over its reference */
     IMDAGLUZ_MISSING = 18,        /* the tag, a space or a newline is missing */
     IMDAGLUZ_UNDEFINED_TOP = 19,  /* M is above I+L+A: a variable that the header counts has no definition */
-    IMDAGLUZ_ZERO_DELTA = 20      /* a gate's first delta is zero: the gate would be its own first input */
+    IMDAGLUZ_ZERO_DELTA = 20,     /* a gate's first delta is zero: the gate would be its own first input */
+    IMDAGLUZ_NUMBER_TOO_WIDE = 21 /* a number without a leading zero does not fit 64 bits, whatever its limit */
 };
 
 /* Reads one delta of a binary AIGER file: groups of seven bits, the lowest first, one to a byte, the top bit set on all but the last;
@@ -192,13 +193,13 @@ uint32_t imdagluz_renumber(uint32_t top, const uint32_t *counts, size_t counts_l
  *   18  the file does not begin with the three bytes aig: place 0
  *   18  no space stands before one of the first five counts, neither a space nor a newline after A, B, C or J, or no newline after F: that byte. A carriage
  *       return is no newline
- *   10, 11, 12  of a count, at its first byte: no digit stands there; it has two or more digits and begins with 0; it is over its limit, which is
- *       1,048,575 for M, O, B, C, J and F, M for I, M-I for L, M-I-L for A
+ *   10, 11, 21, 12  of a count, at its first byte: no digit stands there; it has two or more digits and begins with 0; it does not fit 64 bits; it is
+ *       over its limit, which is 1,048,575 for M, O, B, C, J and F, M for I, M-I for L, M-I-L for A
  * At the byte after the header's newline:
  *   19  M is above I+L+A
  *   3   nexts is shorter than L, gates than 2A, or sizes than J
  * In the lines that follow, as they come:
- *   10, 11, 12  of a literal or a reset, whose limit is 2M+1, or of a justice size, whose limit is 1,048,575, at its first byte
+ *   10, 11, 21, 12  of a literal or a reset, whose limit is 2M+1, or of a justice size, whose limit is 1,048,575, at its first byte
  *   18  no newline ends the line, or after a latch's next state neither a space nor a newline stands: that byte
  * At the byte after the last justice size (where J is 0: after the last constraint):
  *   1   R is over 1,048,575, the sizes included

@@ -82,7 +82,7 @@ static const struct row { const char *file; size_t length; uint32_t number; uint
     {FILE_OF("aig 0 0 0 0 0 0 0 0 0 0\n"), 18, 21},
     {FILE_OF("aig 1048575 0 0 0 0\n"), 19, 20},
     {FILE_OF("aig 1048576 0 0 0 0\n"), 12, 4},
-    {FILE_OF("aig 18446744073709551616 0 0 0 0\n"), 12, 4},
+    {FILE_OF("aig 18446744073709551616 0 0 0 0\n"), 21, 4},
     {FILE_OF("aig 018446744073709551616 0 0 0 0\n"), 11, 4},
     {FILE_OF("aig 1 2 0 0 0\n"), 12, 6},
     {FILE_OF("aig 1 1 0 0 1\n"), 12, 12},

@@ -41,7 +41,7 @@ among n (m ∷ ms) = eqb n m || among n ms
 
 -- a file is refused by one of these numbers, whatever the lists
 abbrev pub Given : Fault → Type 0
-Given why = among (faultNumber why) (1 ∷ 3 ∷ 10 ∷ 11 ∷ 12 ∷ 15 ∷ 16 ∷ 17 ∷ 18 ∷ 19 ∷ 20 ∷ []) ≡ true
+Given why = among (faultNumber why) (1 ∷ 3 ∷ 10 ∷ 11 ∷ 12 ∷ 15 ∷ 16 ∷ 17 ∷ 18 ∷ 19 ∷ 20 ∷ 21 ∷ []) ≡ true
 
 has-given : Has Given
 has-given =

@@ -18,9 +18,9 @@ pub told :
     -- `00` and `01` are 11
     × (tokenNumber (uintAt (48 ∷ 48 ∷ []) 0) ≡ 11)
     × (tokenNumber (uintAt (48 ∷ 49 ∷ []) 0) ≡ 11)
-    -- the largest number of 64 bits is read, the one after it is 12
+    -- the largest number of 64 bits is read, the one after it is 21
     × (uintAt (49 ∷ 56 ∷ 52 ∷ 52 ∷ 54 ∷ 55 ∷ 52 ∷ 52 ∷ 48 ∷ 55 ∷ 51 ∷ 55 ∷ 48 ∷ 57 ∷ 53 ∷ 53 ∷ 49 ∷ 54 ∷ 49 ∷ 53 ∷ []) 0 ≡ Value 18446744073709551615 20)
-    × (tokenNumber (uintAt (49 ∷ 56 ∷ 52 ∷ 52 ∷ 54 ∷ 55 ∷ 52 ∷ 52 ∷ 48 ∷ 55 ∷ 51 ∷ 55 ∷ 48 ∷ 57 ∷ 53 ∷ 53 ∷ 49 ∷ 54 ∷ 49 ∷ 54 ∷ []) 0) ≡ 12)
+    × (tokenNumber (uintAt (49 ∷ 56 ∷ 52 ∷ 52 ∷ 54 ∷ 55 ∷ 52 ∷ 52 ∷ 48 ∷ 55 ∷ 51 ∷ 55 ∷ 48 ∷ 57 ∷ 53 ∷ 53 ∷ 49 ∷ 54 ∷ 49 ∷ 54 ∷ []) 0) ≡ 21)
     -- assigning, limit 6: `6` is read, `7` is 14, `8` is 12, `0` is 13
     × (litAt (54 ∷ []) 0 6 true ≡ Value 6 1)
     × (tokenNumber (litAt (55 ∷ []) 0 6 true) ≡ 14)
@@ -39,9 +39,9 @@ pub pinned :
     -- place 5 of one byte is 10 at 5
     × (uintAt (49 ∷ []) 5 ≡ Refused NoDigit 5)
     × (tokenNumber (uintAt (49 ∷ []) 5) ≡ 10)
-    -- assigning `00` is 11; assigning an odd number over 64 bits is 12, and not 14
+    -- assigning `00` is 11; assigning an odd number over 64 bits is 21, and not 14 or 12
     × (tokenNumber (litAt (48 ∷ 48 ∷ []) 0 6 true) ≡ 11)
-    × (tokenNumber (litAt (49 ∷ 56 ∷ 52 ∷ 52 ∷ 54 ∷ 55 ∷ 52 ∷ 52 ∷ 48 ∷ 55 ∷ 51 ∷ 55 ∷ 48 ∷ 57 ∷ 53 ∷ 53 ∷ 49 ∷ 54 ∷ 49 ∷ 55 ∷ []) 0 6 true) ≡ 12)
+    × (tokenNumber (litAt (49 ∷ 56 ∷ 52 ∷ 52 ∷ 54 ∷ 55 ∷ 52 ∷ 52 ∷ 48 ∷ 55 ∷ 51 ∷ 55 ∷ 48 ∷ 57 ∷ 53 ∷ 53 ∷ 49 ∷ 54 ∷ 49 ∷ 55 ∷ []) 0 6 true) ≡ 21)
     -- eight bytes are read, redundant zero groups or not
     × (binaryAt (0x80 ∷ 0x80 ∷ 0x80 ∷ 0x80 ∷ 0x80 ∷ 0x80 ∷ 0x80 ∷ 0x00 ∷ []) 0 ≡ Value 0 8)
     × (binaryAt (0xff ∷ 0xff ∷ 0xff ∷ 0xff ∷ 0xff ∷ 0xff ∷ 0xff ∷ 0x7f ∷ []) 0 ≡ Value 72057594037927935 8)
@@ -75,7 +75,7 @@ limit-before-sign = (refl, refl)
 
 -- document 01's number for each reason; a token or a pair that is read has none
 pub numbers :
-    (reasonNumber NoDigit ≡ 10) × (reasonNumber LeadingZero ≡ 11) × (reasonNumber OverWidth ≡ 12) × (reasonNumber OverLimit ≡ 12)
+    (reasonNumber NoDigit ≡ 10) × (reasonNumber LeadingZero ≡ 11) × (reasonNumber OverWidth ≡ 21) × (reasonNumber OverLimit ≡ 12)
     × (reasonNumber AssignsZero ≡ 13) × (reasonNumber AssignsOdd ≡ 14) × (reasonNumber Cut ≡ 15) × (reasonNumber TooLong ≡ 16)
     × (reasonNumber OverReference ≡ 17) × (reasonNumber ZeroDelta ≡ 20)
     × (tokenNumber (Value 5 6) ≡ 0) × (tokenNumber (Refused TooLong 3) ≡ 16) × (pairNumber (Inputs 5 6 7) ≡ 0) × (pairNumber (PairRefused TooLong 3) ≡ 16)
@@ -102,7 +102,7 @@ pub decimals :
     -- place 1 of `x:` is 10 at 1, and of `x01` 11 at 1
     × (uintAt (120 ∷ 58 ∷ []) 1 ≡ Refused NoDigit 1)
     × (uintAt (120 ∷ 48 ∷ 49 ∷ []) 1 ≡ Refused LeadingZero 1)
-    -- place 1 of `x18446744073709551616` is 12 at 1; with a leading zero it is 11
+    -- place 1 of `x18446744073709551616` is 21 at 1; with a leading zero it is 11
     × (uintAt (120 ∷ 49 ∷ 56 ∷ 52 ∷ 52 ∷ 54 ∷ 55 ∷ 52 ∷ 52 ∷ 48 ∷ 55 ∷ 51 ∷ 55 ∷ 48 ∷ 57 ∷ 53 ∷ 53 ∷ 49 ∷ 54 ∷ 49 ∷ 54 ∷ []) 1 ≡ Refused OverWidth 1)
     × (uintAt (48 ∷ 49 ∷ 56 ∷ 52 ∷ 52 ∷ 54 ∷ 55 ∷ 52 ∷ 52 ∷ 48 ∷ 55 ∷ 51 ∷ 55 ∷ 48 ∷ 57 ∷ 53 ∷ 53 ∷ 49 ∷ 54 ∷ 49 ∷ 54 ∷ []) 0 ≡ Refused LeadingZero 0)
     -- place 1 of `x12` with the limit 12 is read, and with the limit 11 is 12 at 1

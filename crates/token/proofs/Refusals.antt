@@ -1,16 +1,18 @@
 -- Laws of refusals: the place that one names, and which of two reasons is given. Assumes nothing.
 use mathlib.Core.Path.{_≡_, refl, sym, ap, _∙_, subst}
 use mathlib.Core.Bool.{Bool, true, false, cond, _&&_, and-false}
-use mathlib.Core.List.{List}
+use mathlib.Core.List.{List, [], _∷_}
 use Prim.Native.Nat.{ℕ, zero, suc, _+_, _-_, _%_, _^_, _≤_, _<_}
+use native.Mathlib.Nat.{add-zero}
 use native.Mathlib.Omega.{arith}
 use lib.Dec.{ltb, leb, eqb}
 use lib.ListN.{length, getD, take, drop}
-use borrow.Author.Tests.{le-leb, lt-leb, le-ltb, eq-eqb, ne-eqb, eqb-true, eqb-false}
+use lib.Seq.{getD-drop}
+use borrow.Author.Tests.{le-leb, lt-leb, le-ltb, ltb-false, leb-false, eq-eqb, ne-eqb, eqb-true, eqb-false}
 use Rattle.token.specs.Format.{decimalValue, groupsValue}
 use Rattle.token.specs.Answer.{digitsAt, uintOf, uintAt, binaryOf, binaryAt, goOnAt, deltaAt, less, within, headerFieldAt, litAt, symbolIndexAt, pairAt, pairOf, pairFirst, pairSecond}
 use Rattle.token.specs.declared.Reason.{Reason}
-use Rattle.token.specs.declared.Reason.the-variants.{LeadingZero, OverWidth, OverLimit, AssignsZero, AssignsOdd, Cut, TooLong, OverReference, ZeroDelta}
+use Rattle.token.specs.declared.Reason.the-variants.{NoDigit, LeadingZero, OverWidth, OverLimit, AssignsZero, AssignsOdd, Cut, TooLong, OverReference, ZeroDelta}
 use Rattle.token.specs.declared.Token.{Token}
 use Rattle.token.specs.declared.Token.the-variants.{Value, Refused}
 use Rattle.token.specs.declared.PairToken.the-variants.{Inputs, PairRefused}
@@ -44,6 +46,44 @@ over-width s at z h = go (digitsAt s at) h
     go : (n : ℕ) → 2 ^ 64 ≤ decimalValue (take n (drop at s)) → uintOf n (getD s at 0) (decimalValue (take n (drop at s))) at ≡ Refused OverWidth at
     go zero k = absurd (omega arith)
     go (suc n) k = rw (ne-eqb (suc n) 0 (omega arith), ne-eqb (getD s at 0) 48 z, and-false, le-ltb (decimalValue (take (suc n) (drop at s))) (2 ^ 64) k)
+
+-- and only such a run: one digit fits, and two or more that begin with `0` are refused before
+pub over-width-only : (s : List ℕ) (at place : ℕ) → uintAt s at ≡ Refused OverWidth place
+    → (getD s at 0 ≡ 48 → ⊥) × (2 ^ 64 ≤ decimalValue (take (digitsAt s at) (drop at s))) × (place ≡ at)
+unfolding uintAt
+over-width-only s at place e = go (eqb k 0) (leb 2 k && eqb (getD s at 0) 48) (ltb v (2 ^ 64)) refl refl refl e
+  where
+    k : ℕ
+    k = digitsAt s at
+
+    v : ℕ
+    v = decimalValue (take k (drop at s))
+
+    none : (l : List ℕ) → getD l 0 0 ≡ 48 → decimalValue (take 1 l) ≡ 0
+    none [] z = absurd (omega arith)
+    none (x ∷ l) z = omega arith
+
+    plain : (leb 2 k && eqb (getD s at 0) 48) ≡ false → (k ≡ 0 → ⊥) → 2 ^ 64 ≤ v → getD s at 0 ≡ 48 → ⊥
+    plain g some large z = short (leb 2 k) refl
+      where
+        short : (b : Bool) → leb 2 k ≡ b → ⊥
+        short true t = let l : (leb 2 k && eqb (getD s at 0) 48) ≡ true = rw (t, z) in let o : _≡_ {A = ℕ} 0 1 = cc in omega arith
+        short false t =
+            let one : k ≡ 1 = omega (arith, leb-false 2 k t) in
+            let first : getD (drop at s) 0 0 ≡ 48 = getD-drop at s 0 0 ∙ ap (λ (i : ℕ). getD s i 0) (add-zero at) ∙ z in
+            let small : v ≡ 0 = ap (λ (n : ℕ). decimalValue (take n (drop at s))) one ∙ none (drop at s) first in
+            omega arith
+
+    go : (x y b : Bool) → eqb k 0 ≡ x → (leb 2 k && eqb (getD s at 0) 48) ≡ y → ltb v (2 ^ 64) ≡ b
+        → cond x (Refused NoDigit at) (cond y (Refused LeadingZero at) (cond b (Value v k) (Refused OverWidth at))) ≡ Refused OverWidth place
+        → (getD s at 0 ≡ 48 → ⊥) × (2 ^ 64 ≤ v) × (place ≡ at)
+    go true y b f g h q = let o : _≡_ {A = ℕ} 0 1 = cc in absurd (omega arith)
+    go false true b f g h q = let o : _≡_ {A = ℕ} 0 1 = cc in absurd (omega arith)
+    go false false true f g h q = let o : _≡_ {A = ℕ} 0 1 = cc in absurd (omega arith)
+    go false false false f g h q =
+        let large : 2 ^ 64 ≤ v = ltb-false v (2 ^ 64) h in
+        let here : place ≡ at = cc in
+        (plain g (eqb-false k 0 f) large, large, here)
 
 -- a number that fits
 module _ (s : List ℕ) (at v n limit : ℕ) (e : uintAt s at ≡ Value v n) where

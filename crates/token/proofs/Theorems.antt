@@ -158,10 +158,15 @@ zero-exactly s at code place = (refusals.zero-first s at code place, λ z. rw (z
 pub leading-zero-first : (s : List ℕ) (at : ℕ) → 2 ≤ digitsAt s at → getD s at 0 ≡ 48 → Everyone s at (Refused LeadingZero at)
 leading-zero-first s at two zeroth = refusals.everyone-refuses s at LeadingZero (refusals.leading-zero s at two zeroth)
 
--- any other run of digits that does not fit 64 bits is 12 at once, whoever reads it
+-- any other run of digits that does not fit 64 bits is 21 at once, whoever reads it
 pub over-width-at-once : (s : List ℕ) (at : ℕ) → (getD s at 0 ≡ 48 → ⊥) → 2 ^ 64 ≤ decimalValue (take (digitsAt s at) (drop at s))
     → Everyone s at (Refused OverWidth at)
 over-width-at-once s at other large = refusals.everyone-refuses s at OverWidth (refusals.over-width s at other large)
+
+-- and 21 is given for nothing else
+pub over-width-exactly : (s : List ℕ) (at place : ℕ)
+    → (uintAt s at ≡ Refused OverWidth place) ↔ ((getD s at 0 ≡ 48 → ⊥) × (2 ^ 64 ≤ decimalValue (take (digitsAt s at) (drop at s))) × (place ≡ at))
+over-width-exactly s at place = (refusals.over-width-only s at place, λ w. rw (w .2) (refusals.over-width s at (w .0) (w .1)))
 
 -- a number that fits: `lit` when assigning tests 13, then 14, and then as the others
 pub assigning-first : (s : List ℕ) (at v n limit : ℕ) → uintAt s at ≡ Value v n

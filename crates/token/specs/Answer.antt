@@ -15,11 +15,11 @@ use Rattle.token.specs.declared.PairToken.the-variants.{Inputs, PairRefu
 
 -- numbers of refusals
 
--- the documents' number for each reason; a number that does not fit 64 bits and one over its limit share 12
+-- the documents' number for each reason
 abbrev pub reasonNumber : Reason → ℕ
 reasonNumber NoDigit = 10
 reasonNumber LeadingZero = 11
-reasonNumber OverWidth = 12
+reasonNumber OverWidth = 21
 reasonNumber OverLimit = 12
 reasonNumber AssignsZero = 13
 reasonNumber AssignsOdd = 14

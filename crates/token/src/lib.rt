@@ -51,7 +51,7 @@ pub fn number(why: Reason) -> u32
     match why {
         Reason::NoDigit => 10,
         Reason::LeadingZero => 11,
-        Reason::OverWidth => 12,
+        Reason::OverWidth => 21,
         Reason::OverLimit => 12,
         Reason::AssignsZero => 13,
         Reason::AssignsOdd => 14,
@@ -103,7 +103,7 @@ fn decimal(s: &[u8], at: usize) -> Token
     Token::Value { value: v, used: n }
 }
 
-// A decimal number: 10 where no digit stands, 11 for a leading zero, 12 for a number over 64 bits.
+// A decimal number: 10 where no digit stands, 11 for a leading zero, 21 for a number over 64 bits.
 pub fn uint(s: &[u8], at: usize) -> Token
     ensures { λ r. ⌜ r ≡ uintAt (now (s .entry)) at ⌝ }
 {

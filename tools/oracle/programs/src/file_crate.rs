@@ -1,10 +1,11 @@
 //! A binary file read by the crate's staged calls, stopped after the last gate: its `parse` reads on.
 use crate::file_words::{Ordered, Refused};
+use crate::token_line;
 use flussab_aiger::{aig, binary, InnerParseError, ParseError};
 
 /// The circuit, or the number and the place of the refusal.
 pub fn read(bytes: &[u8]) -> Result<Ordered, Refused> {
-    staged(bytes).map_err(refused)
+    staged(bytes).map_err(|error| refused(error, bytes))
 }
 
 /// Puts all that a stage gives into a list.
@@ -77,7 +78,7 @@ pub fn record(circuit: &Ordered) -> aig::Aig<u32> {
 
 /// The documents' number for a message of the crate, and the place that it names. What follows `found` is quoted from the file, and no message is looked at
 /// that far.
-fn refused(error: ParseError) -> Refused {
+fn refused(error: ParseError, bytes: &[u8]) -> Refused {
     let error = match *error {
         InnerParseError::SyntaxError(error) => error,
         InnerParseError::IoError(error) => panic!("{error}"),
@@ -89,7 +90,7 @@ fn refused(error: ParseError) -> Refused {
         _ if message.starts_with("expected ") => 10,
         _ if message.starts_with("invalid initialization literal ") => 22,
         _ if message.contains("has leading zeros") => 11,
-        _ if message.contains(" exceeds the ") => 12,
+        _ if message.contains(" exceeds the ") => token_line::told_apart(12, &bytes[error.position..]),
         _ if message.contains("uses more bytes than required") => 16,
         _ if message.starts_with("encoded delta ") => 17,
         _ => panic!("a message without a number: {message}"),

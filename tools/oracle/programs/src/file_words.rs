@@ -150,7 +150,8 @@ impl Reader<'_> {
                 Ok(value)
             }
             Ok(value) if value <= other => self.refuse(12, line),
-            _ => self.refuse(12, None),
+            Ok(_) => self.refuse(12, None),
+            Err(_) => self.refuse(21, None),
         }
     }
 

@@ -96,7 +96,7 @@ fn ask(reader: &mut LineReader, question: &Question) -> Result<Value, (u64, usiz
         ("delta_code", &[reference]) => token::delta_code(reader, reference, "code", "reference"),
         (function, _) => panic!("no such question: {function}"),
     };
-    one.map(Value::One).map_err(refusal)
+    one.map(Value::One).map_err(refusal).map_err(|(number, at)| (told_apart(number, &question.rest()[at..]), at))
 }
 
 /// The crate's `uint` has no message: the run of digits is told apart as its `exceeds_count` does.
@@ -105,8 +105,20 @@ fn uint(reader: &mut LineReader) -> Result<usize, (u64, usize)> {
     match token::uint::<usize>(reader) {
         Parsed::Res(Ok(value)) => Ok(value),
         Parsed::Res(Err(digits)) if digits.starts_with('0') => Err((11, place)),
-        Parsed::Res(Err(_)) => Err((12, place)),
+        Parsed::Res(Err(_)) => Err((21, place)),
         Parsed::Fallthrough => Err((10, place)),
+    }
+}
+
+/// The crate has one message for a number over its limit and for a run of digits that does not fit 64 bits, 12 here; the
+/// documents have 21 for the latter. The run at the place that the message names tells which it is.
+pub fn told_apart(number: u64, rest: &[u8]) -> u64 {
+    let length = rest.iter().take_while(|byte| byte.is_ascii_digit()).count();
+    let digits = std::str::from_utf8(&rest[..length]).unwrap();
+    if number == 12 && digits.parse::<u64>().is_err() {
+        21
+    } else {
+        number
     }
 }
 

@@ -25,7 +25,7 @@ pub fn answer(question: &Question) -> String {
     }
 }
 
-/// The longest run of digits: 10, then 11, then 12.
+/// The longest run of digits: 10, then 11, then 21.
 fn decimal(bytes: &[u8]) -> Read {
     let length = bytes.iter().take_while(|b| b.is_ascii_digit()).count();
     let digits = std::str::from_utf8(&bytes[..length]).unwrap();
@@ -34,7 +34,7 @@ fn decimal(bytes: &[u8]) -> Read {
     } else if length > 1 && digits.starts_with('0') {
         Err(11)
     } else {
-        digits.parse().map(|value| (value, length)).map_err(|_| 12)
+        digits.parse().map(|value| (value, length)).map_err(|_| 21)
     }
 }
 
