@@ -17,10 +17,10 @@
 #include <stdint.h>
 
 /* The version of this header and of the archive that belongs to it. */
-#define IMDAGLUZ_VERSION "0.3.0"
+#define IMDAGLUZ_VERSION "0.3.1"
 #define IMDAGLUZ_VERSION_MAJOR 0
 #define IMDAGLUZ_VERSION_MINOR 3
-#define IMDAGLUZ_VERSION_PATCH 0
+#define IMDAGLUZ_VERSION_PATCH 1
 
 #ifdef __cplusplus
 extern "C" {
@@ -30,27 +30,28 @@ extern "C" {
 #define IMDAGLUZ_LIST 1048575
 
 /* Refusal numbers. 0 is success. imdagluz_delta gives 3 and 15 to 17, imdagluz_renumber 1 to 8, imdagluz_read_aig 1, 3, 10 to 12 and 15 to 21,
- * imdagluz_expand 1 to 3. No function here gives 13 or 14, which are for a literal that a text file assigns. */
+ * imdagluz_expand 1 to 3, imdagluz_write_aig 1 to 4 and 23. No function here gives 13 or 14, which are for a literal that a text file assigns, or 22. */
 enum {
-    IMDAGLUZ_TOO_BIG = 1,         /* V, I, L, G or R is over 1,048,575 */
-    IMDAGLUZ_MISSHAPEN = 2,       /* counts, flags and lengths do not fit together */
-    IMDAGLUZ_SHORT_BUFFER = 3,    /* a lent buffer is too short */
-    IMDAGLUZ_CODE_OVER = 4,       /* a code is over 2V+1 */
-    IMDAGLUZ_DEFINED_AGAIN = 5,   /* an input or a gate's output is defined already, under either sign */
-    IMDAGLUZ_STATE_AGAIN = 6,     /* a latch's state is defined already, under either sign */
-    IMDAGLUZ_UNDEFINED = 7,       /* a literal that is reached is not defined */
-    IMDAGLUZ_CYCLE = 8,           /* a gate that is reached needs itself */
-    IMDAGLUZ_TOO_DEEP = 9,        /* no room on the walk's stack; proved never to be given */
-    IMDAGLUZ_NO_NUMBER = 10,      /* no digit stands where a number begins */
-    IMDAGLUZ_LEADING_ZERO = 11,   /* a number of two or more digits begins with 0 */
-    IMDAGLUZ_NUMBER_OVER = 12,    /* a number is over its limit */
-    IMDAGLUZ_DELTA_CUT = 15,      /* the delta is cut by the end of the bytes */
-    IMDAGLUZ_DELTA_TOO_LONG = 16, /* the delta's eighth byte has its top bit set */
-    IMDAGLUZ_DELTA_OVER = 17,     /* the delta is over its reference */
-    IMDAGLUZ_MISSING = 18,        /* the tag, a space or a newline is missing */
-    IMDAGLUZ_UNDEFINED_TOP = 19,  /* M is above I+L+A: a variable that the header counts has no definition */
-    IMDAGLUZ_ZERO_DELTA = 20,     /* a gate's first delta is zero: the gate would be its own first input */
-    IMDAGLUZ_NUMBER_TOO_WIDE = 21 /* a number without a leading zero does not fit 64 bits, whatever its limit */
+    IMDAGLUZ_TOO_BIG = 1,          /* V, I, L, G or R is over 1,048,575 */
+    IMDAGLUZ_MISSHAPEN = 2,        /* counts, flags and lengths do not fit together */
+    IMDAGLUZ_SHORT_BUFFER = 3,     /* a lent buffer is too short */
+    IMDAGLUZ_CODE_OVER = 4,        /* a code is over 2V+1 */
+    IMDAGLUZ_DEFINED_AGAIN = 5,    /* an input or a gate's output is defined already, under either sign */
+    IMDAGLUZ_STATE_AGAIN = 6,      /* a latch's state is defined already, under either sign */
+    IMDAGLUZ_UNDEFINED = 7,        /* a literal that is reached is not defined */
+    IMDAGLUZ_CYCLE = 8,            /* a gate that is reached needs itself */
+    IMDAGLUZ_TOO_DEEP = 9,         /* no room on the walk's stack; proved never to be given */
+    IMDAGLUZ_NO_NUMBER = 10,       /* no digit stands where a number begins */
+    IMDAGLUZ_LEADING_ZERO = 11,    /* a number of two or more digits begins with 0 */
+    IMDAGLUZ_NUMBER_OVER = 12,     /* a number is over its limit */
+    IMDAGLUZ_DELTA_CUT = 15,       /* the delta is cut by the end of the bytes */
+    IMDAGLUZ_DELTA_TOO_LONG = 16,  /* the delta's eighth byte has its top bit set */
+    IMDAGLUZ_DELTA_OVER = 17,      /* the delta is over its reference */
+    IMDAGLUZ_MISSING = 18,         /* the tag, a space or a newline is missing */
+    IMDAGLUZ_UNDEFINED_TOP = 19,   /* M is above I+L+A: a variable that the header counts has no definition */
+    IMDAGLUZ_ZERO_DELTA = 20,      /* a gate's first delta is zero: the gate would be its own first input */
+    IMDAGLUZ_NUMBER_TOO_WIDE = 21, /* a number without a leading zero does not fit 64 bits, whatever its limit */
+    IMDAGLUZ_DISORDERED = 23       /* a gate's code is not above its first input, or its first input is below its second */
 };
 
 /* Reads one delta of a binary AIGER file: groups of seven bits, the lowest first, one to a byte, the top bit set on all but the last;
@@ -242,6 +243,48 @@ uint32_t imdagluz_expand(uint32_t inputs, uint32_t latches, const uint32_t *gate
                          uint32_t *input_codes, size_t input_codes_length,
                          uint32_t *state_codes, size_t state_codes_length,
                          uint32_t *triples, size_t triples_length);
+
+/* Writes an ordered circuit, as imdagluz_read_aig and imdagluz_renumber leave it, as a binary AIGER file: its inputs have the codes 2, 4, .., 2I, its latch
+ * states go on from there, and gate k, counted from 0, has the code 2(I+L+1+k). V is I+L+G.
+ *
+ * Only read:
+ *   inputs                 I
+ *   counts, counts_length  five words: how many roots are outputs, bad states, constraints, fairness and justice literals
+ *   nexts, nexts_length    L codes, the latches' next states
+ *   gates, gates_length    2G codes, of each gate the larger and then the smaller input; the two may be equal
+ *   sizes, sizes_length    J words, how many literals each justice set has; they add up to counts[4]. A set may be empty
+ *   roots, roots_length    R codes: outputs, bad states, constraints, fairness, justice, in this order
+ * Written; both may be longer than is asked here, and what is past stays as it was:
+ *   out, out_length        as many bytes as the file has. Any number may be lent: a call that lends none measures
+ *   answer, answer_length  2 words of 64 bits
+ *
+ * Answers 0 on success. Then they hold
+ *   answer  0; how many bytes the file has
+ *   out     the file: the header with M = V, in which of the optional counts B C J F those past the last that is not 0 are left out; a line for each
+ *           latch, with its next state and no reset, so that it starts at 0; the root lines in the file's order (outputs, bad states, constraints, justice
+ *           sizes, justice literals, fairness); of each gate its code less the larger input, and that less the smaller one, each delta in its fewest bytes.
+ *           There are no symbols and no comment.
+ * The same circuit always gives the same bytes. A file has at most 76 + 8(V+R+J) bytes, and so never more than 25,165,876: where so many are lent, 3 is not
+ * given for out.
+ *
+ * Or answers a refusal, the first of these that applies; no refusal writes a byte of out:
+ *   3   answer_length is below 2; this one writes nothing, not even to answer
+ *   2   counts_length is not 5
+ *   1   I, L, G, R, V or J is over 1,048,575, G being gates_length/2 rounded down
+ *   2   the counts do not add up to R, the sizes do not add up to counts[4], or gates_length is odd
+ *   4   a code is over 2V+1. The literal at fault is the first one: gates (larger, smaller), nexts, roots
+ *   23  a gate's code is not above its first input, or its first input is below its second. The literal at fault is the first such gate's own code
+ *   3   out is shorter than the file; how many bytes it has stands in answer[1].
+ * Every refusal but the first one leaves in answer[0] the literal at fault, 0 where none is named, and in answer[1] 0, but for the last one.
+ *
+ * Time: in proportion to the lists and the bytes written. */
+uint32_t imdagluz_write_aig(uint32_t inputs, const uint32_t *counts, size_t counts_length,
+                            const uint32_t *nexts, size_t nexts_length,
+                            const uint32_t *gates, size_t gates_length,
+                            const uint32_t *sizes, size_t sizes_length,
+                            const uint32_t *roots, size_t roots_length,
+                            uint8_t *out, size_t out_length,
+                            uint64_t *answer, size_t answer_length);
 
 #ifdef __cplusplus
 }

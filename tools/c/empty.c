@@ -44,6 +44,13 @@ int main(void) {
         good &= imdagluz_read_aig(empty_circuit, 14, at, 0, at, 0, at, 0, at, 0, words, 11) == 0 && words[0] == 14 && one[0] == HELD;
         good &= imdagluz_read_aig(null ? null_bytes : byte, 0, at, 0, at, 0, at, 0, at, 0, words, 11) == 18 && words[0] == 0;
         good &= imdagluz_read_aig(empty_circuit, 14, at, 0, at, 0, at, 0, at, 0, null ? (uint64_t *)NULL : word, 0) == 3 && word[0] == HELD && one[0] == HELD;
+        uint32_t none[5] = {0};
+        uint8_t *bytes = null ? null_bytes : byte, file[14];
+        good &= imdagluz_write_aig(0, none, 5, at, 0, at, 0, at, 0, at, 0, bytes, 0, words, 2) == 3 && words[0] == 0 && words[1] == 14 && byte[0] == HELD;
+        good &= imdagluz_write_aig(0, none, 5, at, 0, at, 0, at, 0, at, 0, file, 14, words, 2) == 0 && memcmp(file, empty_circuit, 14) == 0;
+        good &= imdagluz_write_aig(0, at, 0, at, 0, at, 0, at, 0, at, 0, bytes, 0, words, 2) == 2 && words[0] == 0 && words[1] == 0;
+        good &= imdagluz_write_aig(0, none, 5, at, 0, at, 0, at, 0, at, 0, bytes, 0, null ? (uint64_t *)NULL : word, 0) == 3 && word[0] == HELD;
+        good &= one[0] == HELD && byte[0] == HELD;
         good &= imdagluz_expand(0, 0, at, 0, at, 0, at, 0, at, 0) == 0 && imdagluz_expand(1, 0, at, 0, at, 0, at, 0, at, 0) == 3 && one[0] == HELD;
     }
     char version[40];

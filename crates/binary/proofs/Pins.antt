@@ -33,7 +33,7 @@ use Rattle.binary.specs.Way.{Lending, handedFrom, Enough}
 
 -- 1. Gates.
 
-abbrev pair : ℕ → ℕ → Pair
+abbrev pub pair : ℕ → ℕ → Pair
 pair a b = record { larger = a; smaller = b }
 
 pub gates-pinned :
@@ -61,11 +61,11 @@ header m i l o a b c j f =
     record { top = m; inputs = i; latches = l; outputs = o; gates = a; bad = b; constraints = c; justice = j; fairness = f }
 
 -- cells for next states, gates, sizes, roots
-abbrev room : ℕ → ℕ → ℕ → ℕ → Room
+abbrev pub room : ℕ → ℕ → ℕ → ℕ → Room
 room nexts gates sizes roots = record { nexts = nexts; gates = gates; sizes = sizes; roots = roots }
 
 -- an ordered circuit with its counts, and justice sizes
-abbrev file : ℕ → List ℕ → List Pair → List ℕ → List ℕ → List ℕ → File
+abbrev pub file : ℕ → List ℕ → List Pair → List ℕ → List ℕ → List ℕ → File
 file inputs nexts gates counts roots sizes =
     record { ordered = record { inputs = inputs; nexts = nexts; gates = gates; counts = counts; roots = roots }; sizes = sizes }
 
@@ -102,22 +102,22 @@ roomy-pinned = (
 
 -- aig 6 2 1 2 3 1 1 2 1, latch 8 with reset 1, outputs 12 and 13, bad 9, constraint 3, sizes 2 and 1, justice 6 and 11 and 5, fairness 7, then 8(6,2), 10(8,3)
 -- and 12(10,9)
-abbrev small : List ℕ
+abbrev pub small : List ℕ
 small =
     (97 ∷ 105 ∷ 103 ∷ 32 ∷ 54 ∷ 32 ∷ 50 ∷ 32 ∷ 49 ∷ 32 ∷ 50 ∷ 32 ∷ 51 ∷ 32 ∷ 49 ∷ 32 ∷ 49 ∷ 32 ∷ 50 ∷ 32 ∷ 49 ∷ 10 ∷ 56 ∷ 32 ∷ 49 ∷ 10 ∷ 49 ∷ 50 ∷ 10 ∷ 49 ∷
     51 ∷ 10 ∷ 57 ∷ 10 ∷ 51 ∷ 10 ∷ 50 ∷ 10 ∷ 49 ∷ 10 ∷ 54 ∷ 10 ∷ 49 ∷ 49 ∷ 10 ∷ 53 ∷ 10 ∷ 55 ∷ 10 ∷ 2 ∷ 4 ∷ 2 ∷ 5 ∷ 2 ∷ 1 ∷ [])
 
-abbrev smallFile : File
+abbrev pub smallFile : File
 smallFile = file 2 (8 ∷ []) (pair 6 2 ∷ pair 8 3 ∷ pair 10 9 ∷ []) (2 ∷ 1 ∷ 1 ∷ 1 ∷ 3 ∷ []) (12 ∷ 13 ∷ 9 ∷ 3 ∷ 7 ∷ 6 ∷ 11 ∷ 5 ∷ []) (2 ∷ 1 ∷ [])
 
 abbrev smallHeader : Header
 smallHeader = header 6 2 1 2 3 1 1 2 1
 
 -- aig 6 1 2 0 3, latch 8, latch 5 with reset 1, and the same gates: no root
-abbrev rootless : List ℕ
+abbrev pub rootless : List ℕ
 rootless = (97 ∷ 105 ∷ 103 ∷ 32 ∷ 54 ∷ 32 ∷ 49 ∷ 32 ∷ 50 ∷ 32 ∷ 48 ∷ 32 ∷ 51 ∷ 10 ∷ 56 ∷ 10 ∷ 53 ∷ 32 ∷ 49 ∷ 10 ∷ 2 ∷ 4 ∷ 2 ∷ 5 ∷ 2 ∷ 1 ∷ [])
 
-abbrev rootlessFile : File
+abbrev pub rootlessFile : File
 rootlessFile = file 1 (8 ∷ 5 ∷ []) (pair 6 2 ∷ pair 8 3 ∷ pair 10 9 ∷ []) (0 ∷ 0 ∷ 0 ∷ 0 ∷ 0 ∷ []) [] []
 
 -- from the end of the header on, and the whole, into lists that are just long enough, and too short for the roots

@@ -72,6 +72,7 @@ module _ (bytes : List ℕ) (f : File) (used : ℕ) (g : Lending) (known : Known
       record {
         summary = done .0;
         renumbered = done .1;
+        noMore = ordered.no-more-gates O w (g .trim) (g .hash) (g .fold) (g .codes) x expands filled l lends (C.outcome l) refl (done .0) (done .1);
         inOrder = ordered.result-in-order O w (g .trim) (g .hash) (g .fold) (g .codes) x expands filled l lends (C.outcome l) refl (done .0) (done .1);
         keeps = ordered.values-kept O w (g .trim) (g .hash) (g .fold) (g .codes) x expands filled l lends (C.outcome l) refl (done .0) (done .1);
       }

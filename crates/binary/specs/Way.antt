@@ -63,11 +63,12 @@ pub record Enough (r : FileRead) (g : Lending) : Type 0 where
   pub gates : 2 * r .gates ≤ length (g .gatesOut)
   pub scratch : 3 * topOf r + 3 + 3 * r .gates ≤ length (g .scratch)
 
--- what is lent is renumbered; in the ordered result each gate's code exceeds its first input, which is not below its second, and each next state and
--- root has, under every setting, the value that O gives it
+-- what is lent is renumbered; the ordered result has no more gates than O, each gate's code exceeds its first input, which is not below its second, and
+-- each next state and root has, under every setting, the value that O gives it
 pub record Arrives (O : Ordered) (l : Lent) : Type 0 where
   pub summary : Summary
   pub renumbered : C.outcome l .answer ≡ Renumbered summary
+  pub noMore : length (held l summary (C.outcome l) .gates) ≤ length (O .gates)
   pub inOrder : InOrder (sourcesOf (held l summary (C.outcome l))) (held l summary (C.outcome l) .gates)
   pub keeps : Keeps O (held l summary (C.outcome l))
 

@@ -1,5 +1,5 @@
 -- What follows of the C entries' contracts: each allows one outcome, and what C sees of it is all that is demanded. Calls by example, with every word, stand
--- in Pins (renumbering), ExpandPins and file_words' Pins (reading). Assumes nothing.
+-- in Pins (renumbering), ExpandPins, and file_words' Pins (reading) and WritePins. Assumes nothing.
 pub use Rattle.capi.proofs.Pins.{seen-pinned, flags-told, circuits-shown, settings-pinned, refusals-pinned, rooms-pinned, words-pinned}
 pub use Rattle.capi.proofs.ExpandPins.{expanded-pinned}
 use Prim.Native.Nat.{ℕ, _≤_}
@@ -13,6 +13,7 @@ use Rattle.circuit.specs.Outcome.{Lent, Outcome, circuitOf, outcome}
 use Rattle.circuit.specs.Demands.{Demands}
 use Rattle.circuit.proofs.Demands.{demands}
 use Rattle.file_words.specs.Read as file
+use Rattle.file_words.specs.Write as write
 use Rattle.capi.specs.Renumber.{Seen, misgiven, asSeen, renumberSeen}
 use Rattle.capi.specs.Expand as expand
 use Rattle.capi.proofs.imdagluz_delta.Kinds as delta-kinds
@@ -23,6 +24,8 @@ use Rattle.capi.proofs.imdagluz_read_aig.Kinds as read-aig-kinds
 use Rattle.capi.proofs.imdagluz_read_aig.Reads as read-aig-promise
 use Rattle.capi.proofs.imdagluz_expand.Kinds as expand-kinds
 use Rattle.capi.proofs.imdagluz_expand.Reads as expand-promise
+use Rattle.capi.proofs.imdagluz_write_aig.Kinds as write-aig-kinds
+use Rattle.capi.proofs.imdagluz_write_aig.Reads as write-aig-promise
 
 -- any two outcomes that a contract allows for the same arguments are equal: of `imdagluz_delta` the number, and each lent byte
 pub one-imdagluz-delta : DeterminesCells 2 delta-kinds.ps delta-kinds.r delta-promise.Learnt (λ κs e. now (e .1 .1 .1 .0))
@@ -56,6 +59,13 @@ pub one-imdagluz-expand :
     (λ κs e. (now (e .1 .1 .1 .0), now (e .1 .1 .1 .1 .0), now (e .1 .1 .1 .1 .1 .0)))
 one-imdagluz-expand κs a x y e f p q =
     (ap (λ (s : expand.Seen). s .number) (p ∙ sym q), ap (λ (s : expand.Seen). (s .inputCodes, s .stateCodes, s .triples)) (p ∙ sym q))
+
+-- of `imdagluz_write_aig` the number, each lent byte, and the answer words
+pub one-imdagluz-write-aig :
+    DeterminesCells 7 write-aig-kinds.ps write-aig-kinds.r write-aig-promise.Learnt {A = List ℕ × List ℕ}
+    (λ κs e. (now (e .1 .1 .1 .1 .1 .1 .0), now (e .1 .1 .1 .1 .1 .1 .1 .0)))
+one-imdagluz-write-aig κs a x y e f p q =
+    (ap (λ (s : write.Seen). s .number) (p ∙ sym q), ap (λ (s : write.Seen). (s .bytes, s .words)) (p ∙ sym q))
 
 -- given room for the answer, five counts and flags that are flags, what C sees is an outcome that is all the customer demands
 pub seen-demands : (counts : List ℕ) (flags : ℕ) (l : Lent) (words : List ℕ) → 3 ≤ length words → length counts ≡ 5 → flags ≤ 7

@@ -4,6 +4,7 @@ mod renumber;
 ghost use mathlib.Core.Path.{_≡_};
 ghost use Rattle.delta_bytes.specs.Delta.{deltaNumber, deltaBytes};
 ghost use Rattle.file_words.specs.Read.{fileSeen, readSeen};
+ghost use Rattle.file_words.specs.Write.{bytesSeen, writeSeen};
 ghost use Rattle.capi.specs.Renumber.{seen, recordOf, renumberSeen};
 ghost use Rattle.capi.specs.Expand.{listsSeen, expandSeen};
 
@@ -139,4 +140,34 @@ pub extern "C" fn imdagluz_expand(
         triples,
     );
     ordered::number(said)
+}
+
+// Writes an ordered circuit as a binary AIGER file, as `binary::write` does: 0, or a refusal's number. The answer goes to the first two words of `answer`: the
+// literal at fault, and the bytes written or, where the lent ones are too few, those needed; each 0 where there is none. Fewer than two words is refusal 3,
+// tested first, and writes nothing; then counts that are not five are refusal 2. No refusal writes a byte.
+#[no_mangle]
+pub extern "C" fn imdagluz_write_aig(
+    inputs: u32,
+    counts: &[u32],
+    nexts: &[u32],
+    gates: &[u32],
+    sizes: &[u32],
+    roots: &[u32],
+    out: &mut [u8],
+    answer: &mut [u64],
+) -> u32
+    ensures { λ r. ⌜ bytesSeen (record {
+      number = r;
+      bytes = now (out .exit);
+      words = now (answer .exit);
+    }) ≡ writeSeen (record {
+      inputs = inputs;
+      counts = now (counts .entry);
+      nexts = now (nexts .entry);
+      gates = now (gates .entry);
+      sizes = now (sizes .entry);
+      roots = now (roots .entry);
+    }) (now (out .entry)) (now (answer .entry)) ⌝ }
+{
+    file_words::write(inputs, counts, nexts, gates, sizes, roots, out, answer)
 }

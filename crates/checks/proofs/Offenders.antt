@@ -73,11 +73,11 @@ module _ (bound : ℕ) (ss ns : List ℕ) (i : ℕ) where
   latch-end h = rw (drop-at-end ss i h)
 
 -- lists one after another
-abbrev orNext : Found → Found → Found
+abbrev pub orNext : Found → Found → Found
 orNext (Literal l) next = Literal l
 orNext Nothing next = next
 
-over-append : (bound : ℕ) (xs ys : List ℕ) → found (firstOver bound (xs ++ ys)) ≡ orNext (found (firstOver bound xs)) (found (firstOver bound ys))
+pub over-append : (bound : ℕ) (xs ys : List ℕ) → found (firstOver bound (xs ++ ys)) ≡ orNext (found (firstOver bound xs)) (found (firstOver bound ys))
 over-append bound [] ys = refl
 over-append bound (x ∷ xs) ys = go (leb x bound) (over-append bound xs ys)
   where

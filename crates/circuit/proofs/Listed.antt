@@ -16,13 +16,13 @@ use Rattle.circuit.proofs.Lists.{In-left, In-right, In-cases, In-unmap}
 use Rattle.circuit.proofs.Words.{gates-length}
 
 -- all of two lists together
-within-left : (b : ℕ) (xs ys : List ℕ) → AllWithin b (xs ++ ys) → AllWithin b xs
+pub within-left : (b : ℕ) (xs ys : List ℕ) → AllWithin b (xs ++ ys) → AllWithin b xs
 within-left b xs ys f c h = f c (In-left c xs ys h)
 
-within-right : (b : ℕ) (xs ys : List ℕ) → AllWithin b (xs ++ ys) → AllWithin b ys
+pub within-right : (b : ℕ) (xs ys : List ℕ) → AllWithin b (xs ++ ys) → AllWithin b ys
 within-right b xs ys f c h = f c (In-right c xs ys h)
 
-within-join : (b : ℕ) (xs ys : List ℕ) → AllWithin b xs → AllWithin b ys → AllWithin b (xs ++ ys)
+pub within-join : (b : ℕ) (xs ys : List ℕ) → AllWithin b xs → AllWithin b ys → AllWithin b (xs ++ ys)
 within-join b xs ys f g c h = go (In-cases c xs ys h)
   where
     go : In c xs ⊎ In c ys → c ≤ b

@@ -1,4 +1,7 @@
 pub mod Words
+pub mod Writing
+pub mod Most
 pub mod Pins
+pub mod WritePins
 pub mod Refusals
 pub mod Theorems

@@ -1,9 +1,10 @@
 -- What follows of the contract of reading for C: it allows one outcome, gives these refusals and no others, none past the end, and with lists of the limits
--- never 3. The examples stand in Pins.antt. Assumes nothing.
-use Prim.Native.Nat.{ℕ, _≤_}
+-- never 3. That of writing allows one outcome too, and with bytes for every file it never gives 3. The examples stand in Pins.antt and WritePins.antt.
+-- Assumes nothing.
+use Prim.Native.Nat.{ℕ, _+_, _*_, _≤_}
 use mathlib.Core.Path.{_≡_, refl, sym, _∙_, ap}
 use mathlib.Core.Logic.{_≢_}
-use mathlib.Core.Bool.{Bool, true, false, _||_}
+use mathlib.Core.Bool.{Bool, true, false, cond, _||_}
 use mathlib.Core.List.{List, [], _∷_}
 use native.Mathlib.Omega.{arith}
 use lib.Dec.{eqb}
@@ -21,11 +22,25 @@ use Rattle.lines.specs.Reading.{Read, got, no}
 use Rattle.binary.specs.File.{File, Room, readFile}
 use Rattle.binary.specs.Known.{Ample}
 use Rattle.binary.specs.Promise.{Lists, roomOf, left}
+use Rattle.binary.specs.declared.FileWritten.the-variants.{Unwritten}
+use Rattle.binary.specs.Write.{fileOf, fileIn, wrote, writtenAs, writing}
 use Rattle.binary.proofs.Theorems.{never-short}
+use Rattle.ordered.specs.declared.given.Fault.the-variants as lent
+use Rattle.ordered.specs.declared.given.Checked.{Checked}
+use Rattle.ordered.specs.declared.given.Checked.the-variants.{Fits, Faulty}
+use Rattle.ordered.specs.WellOrdered.{variablesOf}
+use Rattle.ordered.specs.Check.{Words, circuitIn, checked}
+use Rattle.ordered.specs.Given as ordered
+use Rattle.ordered.proofs.Theorems.{exactly, fits-exactly}
 use Rattle.file_words.specs.Read.{Seen, fileNumber, readSeen}
+use Rattle.file_words.specs.Write as write
+use Rattle.file_words.specs.Write.{writtenNumber, asSeen, writeSeen}
+use Rattle.file_words.proofs.Most as most
 use Rattle.file_words.proofs.Refusals.{Only, Has, only-read}
 use Rattle.file_words.proofs.read.Kinds as read-kinds
 use Rattle.file_words.proofs.read.Reads as read-promise
+use Rattle.file_words.proofs.write.Kinds as write-kinds
+use Rattle.file_words.proofs.write.Reads as write-promise
 
 -- any two outcomes that the contract of `read` allows for the same arguments are equal: the number, each of the four lists, and the answer words
 pub one-read :
@@ -33,6 +48,13 @@ pub one-read :
     (λ κs e. (now (e .1 .0), now (e .1 .1 .0), now (e .1 .1 .1 .0), now (e .1 .1 .1 .1 .0), now (e .1 .1 .1 .1 .1 .0)))
 one-read κs a x y e f p q =
     (ap (λ (s : Seen). s .number) (p ∙ sym q), ap (λ (s : Seen). (s .nexts, s .gates, s .sizes, s .roots, s .words)) (p ∙ sym q))
+
+-- of `write` the number, each lent byte, and the answer words
+pub one-write :
+    DeterminesCells 7 write-kinds.ps write-kinds.r write-promise.Learnt {A = List ℕ × List ℕ}
+    (λ κs e. (now (e .1 .1 .1 .1 .1 .1 .0), now (e .1 .1 .1 .1 .1 .1 .1 .0)))
+one-write κs a x y e f p q =
+    (ap (λ (s : write.Seen). s .number) (p ∙ sym q), ap (λ (s : write.Seen). (s .bytes, s .words)) (p ∙ sym q))
 
 -- whether a number is one of a list
 abbrev pub among : ℕ → List ℕ → Bool
@@ -103,3 +125,34 @@ never-three bytes l words room ample = rw (le-ltb (length words) 11 room) (go (r
     go : (R : Read File) → readFile bytes (roomOf l) ≡ R → fileNumber (left R l .read .answer) ≢ 3
     go (got f at) e = omega arith
     go (no why place) e = refused why place e (refusals-given bytes (roomOf l) why place e .0)
+
+-- what is written of an ordered circuit of V variables, R roots and J justice sets has at most 76 + 8 (V + R + J) bytes
+pub file-most : (w : Words) → ordered.Given w → length (fileOf (fileIn w)) ≤ 76 + 8 * (variablesOf (circuitIn w) + length (w .roots) + length (w .sizes))
+file-most = most.file-most
+
+-- where as many bytes are lent as the file has, and two answer words, 3 is not answered
+not-short : (w : Words) (out words : List ℕ) → 2 ≤ length words → (ordered.Given w → length (fileOf (fileIn w)) ≤ length out)
+    → writeSeen w out words .number ≢ 3
+unfolding writeSeen writing
+not-short w out words room fits = rw (le-ltb (length words) 2 room) (five (eqb (length (w .counts)) 5))
+  where
+    go : (c : Checked) → checked w 0 ≡ c → writtenNumber (writtenAs c (fileOf (fileIn w)) out .answer) ≢ 3
+    go Fits e = rw (le-ltb (length out) (length (fileOf (fileIn w))) (fits (fits-exactly w 0 .0 e .0))) (omega arith)
+    go (Faulty lent.TooBig) e = omega arith
+    go (Faulty lent.Misshapen) e = omega arith
+    go (Faulty (lent.Over l)) e = omega arith
+    go (Faulty (lent.Disordered l)) e = omega arith
+    go (Faulty lent.Short) e = absurd (exactly w 0 (Faulty lent.Short) .0 e)
+
+    five : (b : Bool) → asSeen (cond b (writtenAs (checked w 0) (fileOf (fileIn w)) out) (wrote (Unwritten lent.Misshapen 0) out)) words .number ≢ 3
+    five true = go (checked w 0) refl
+    five false = omega arith
+
+-- so with 76 + 8 (V + R + J) bytes it is not, and with 25,165,876 bytes it never is
+pub enough-bytes : (w : Words) (out words : List ℕ) → 2 ≤ length words
+    → 76 + 8 * (variablesOf (circuitIn w) + length (w .roots) + length (w .sizes)) ≤ length out → writeSeen w out words .number ≢ 3
+enough-bytes w out words room h = not-short w out words room (λ g. omega (arith, file-most w g, h))
+
+pub never-three-written : (w : Words) (out words : List ℕ) → 2 ≤ length words → 25165876 ≤ length out → writeSeen w out words .number ≢ 3
+never-three-written w out words room h =
+    not-short w out words room (λ g. omega (arith, file-most w g, h, g .ordered .variables, g .ordered .few, g .sets))

@@ -1,10 +1,13 @@
-// A binary AIGER file read for C: what the reader answers as a number and eleven words.
+// A binary AIGER file read and written for C: what the reader answers as a number and eleven words, the writer as a number and two.
+mod written;
+
 ghost use mathlib.Core.Path.{_≡_};
 ghost use Prim.Native.Nat.{_≤_};
 ghost use lib.ListN.{length};
 ghost use Rattle.circuit.specs.Outcome.{onto};
 ghost use Rattle.lent.specs.Counted.{Counted};
 ghost use Rattle.file_words.specs.Read.{fileNumber, firstWord, answerWords, fileSeen, readSeen};
+ghost use Rattle.file_words.specs.Write.{bytesSeen, writeSeen};
 use binary::FileAnswer;
 use binary::FileRead;
 
@@ -97,4 +100,42 @@ pub fn read(
     put_words(said, answer);
     let what = said.answer;
     number(what)
+}
+
+// Writes an ordered circuit as `binary::write` does: 0, or a refusal's number. The first two words of `answer` are the literal at fault, and the bytes
+// written or, where the lent ones are too few, those needed; each 0 where there is none. Fewer than two words is refusal 3, tested first, and writes nothing
+// at all; then counts that are not five are refusal 2. No refusal writes a byte.
+pub fn write(
+    inputs: u32,
+    counts: &[u32],
+    nexts: &[u32],
+    gates: &[u32],
+    sizes: &[u32],
+    roots: &[u32],
+    out: &mut [u8],
+    answer: &mut [u64],
+) -> u32
+    ensures { λ r. ⌜ bytesSeen (record {
+      number = r;
+      bytes = now (out .exit);
+      words = now (answer .exit);
+    }) ≡ writeSeen (record {
+      inputs = inputs;
+      counts = now (counts .entry);
+      nexts = now (nexts .entry);
+      gates = now (gates .entry);
+      sizes = now (sizes .entry);
+      roots = now (roots .entry);
+    }) (now (out .entry)) (now (answer .entry)) ⌝ }
+{
+    if answer.len() < 2 {
+        return 3;
+    }
+    if counts.len() != 5 {
+        written::put_words(answer, 0, 0);
+        return 2;
+    }
+    let shape = written::shape_of(inputs, counts);
+    let said = binary::write(shape, nexts, gates, sizes, roots, out);
+    written::put_answer(said, answer)
 }

@@ -1,7 +1,7 @@
 -- An ordered circuit within the limits whose gates are in order passes checks 1, 2 and 4 as it is given: its codes are counted upwards, and an input is below
 -- its gate's code, which is at most 2V. It defines no variable twice and all that is walked is grounded, so that renumbering succeeds, and then its values are
 -- kept. Assumes nothing.
-use Prim.Native.Nat.{ℕ, zero, suc, _+_, _*_, _≤_}
+use Prim.Native.Nat.{ℕ, zero, suc, _+_, _*_, _≤_, _<_}
 use mathlib.Core.Path.{_≡_, refl, sym, ap, _∙_, subst, subst⁻¹}
 use mathlib.Core.Logic.{inl, inr}
 use mathlib.Core.Bool.{Bool}
@@ -136,6 +136,15 @@ module _ (O : Ordered) (k : WellOrdered O) (trim hash fold : Bool) where
     in-order r left s answered =
         subst⁻¹ (λ (x : C.Outcome). InOrder (sourcesOf (held l s x)) (held l s x .gates)) left (success r left s answered .gatesInOrder)
 
+    -- no gate is added
+    pub no-more : (r : C.Outcome) → r ≡ C.outcome l → (s : Summary) → r .answer ≡ Renumbered s → length (held l s r .gates) ≤ length (O .gates)
+    unfolding given
+    no-more r left s answered =
+        let after = success r left s answered in
+        let many : length (circuitOf l .gates) ≡ length (O .gates)
+        = ap (λ (x : Circuit). length (x .gates)) same ∙ gates-length (firstCode (sourcesOf O)) (O .gates) in
+        subst⁻¹ (λ (x : C.Outcome). length (held l s x .gates) ≤ length (O .gates)) left (omega (arith, after .holds .made, after .madeFew, many))
+
     -- and every next state and root has its value
     pub keeps : (r : C.Outcome) → r ≡ C.outcome l → (s : Summary) → r .answer ≡ Renumbered s → Keeps O (held l s r)
     unfolding given orderedGraph
@@ -185,3 +194,43 @@ fills O k lists p q r =
     let n = words-length (O .gates) in
     sym (ap (λ (x : Outcome). x .answer)
     (all-filled (O .inputs) (length (O .nexts)) (pairWords (O .gates)) lists (omega (arith, n, k .variables)) (omega (arith, n)) p q (omega (arith, n))))
+
+-- what a success leaves is well ordered
+
+in-place : (xs : List ℕ) (c : ℕ) → In c xs → (j : ℕ) × (j < length xs) × (getD xs j 0 ≡ c)
+in-place [] c i = absurd i
+in-place (x ∷ xs) c (inl e) = (0, omega arith, sym e)
+in-place (x ∷ xs) c (inr i) = let p = in-place xs c i in (suc (p .0), omega (arith, p .1), p .2)
+
+module _ (l : Lent) (s : Summary) (e : C.outcome l .answer ≡ Renumbered s) where
+  abbrev D : Ordered
+  D = held l s (C.outcome l)
+
+  after : AfterSuccess l (circuitOf l) (C.outcome l) s (held l s (C.outcome l))
+  after = demands l .success s e
+
+  -- V of the result is the variable that a success answers
+  top : variablesOf (held l s (C.outcome l)) ≡ s .top .0
+  top = omega (arith, after .holds .inputs, after .holds .latches, after .holds .made, after .top)
+
+  pub result : WellOrdered (held l s (C.outcome l))
+  result =
+      let sizes = after .passes .sizes in
+      record {
+        variables = omega (arith, top, after .topFew, sizes .within .top);
+        few = omega (arith, after .holds .rootCount, sizes .within .roots);
+        counts = ap total (after .holds .counts) ∙ sizes .agrees .roots ∙ sym (after .holds .rootCount);
+        nexts = λ c i.
+            let p = in-place (held l s (C.outcome l) .nexts) c i in
+            let h : p .0 < length (l .states) = omega (arith, p .1, after .holds .latches) in
+            let image : getD (C.outcome l .nextImages) (p .0) 0 ≡ c = sym (after .holds .nexts (p .0) h) ∙ p .2 in
+            let low = after .codesWithin _ _ (after .nextImages (p .0) (omega (arith, h, sizes .agrees .latches))) .0 in
+            omega (arith, low, image, top);
+        roots = λ c i.
+            let p = in-place (held l s (C.outcome l) .roots) c i in
+            let h : p .0 < length (l .roots) = omega (arith, p .1, after .holds .rootCount) in
+            let image : getD (C.outcome l .rootImages) (p .0) 0 ≡ c = sym (after .holds .roots (p .0) h) ∙ p .2 in
+            let low = after .codesWithin _ _ (after .rootImages (p .0) h) .0 in
+            omega (arith, low, image, top);
+        gates = after .gatesInOrder;
+      }

@@ -7,7 +7,7 @@ use native.Mathlib.Nat.{add-zero, add-suc, suc-add}
 use native.Mathlib.Numerals.{add-one}
 use native.Mathlib.Omega.{arith, min-cases}
 use lib.ListN.{length, getD, set, take, drop, length-set, length-append, take-append-drop, drop-of-length-le}
-use lib.Seq.{take-suc, take-all, length-take-le, set-out, sets, sets-eq}
+use lib.Seq.{take-suc, take-all, length-take-le, set-out, set-comm, sets, sets-eq}
 use Rattle.place.specs.Place.{last, further}
 use Rattle.place.proofs.Theorems.{further-none, further-twice}
 use Rattle.text.specs.Put.{putAll}
@@ -26,6 +26,13 @@ put-all-append out at (b ∷ bs) cs =
 pub put-all-past : (out : List ℕ) (at : ℕ) (bs : List ℕ) → length out ≤ at → putAll out at bs ≡ out
 put-all-past out at [] h = refl
 put-all-past out at (b ∷ bs) h = put-all-past (set out at b) (suc at) bs (omega (arith, length-set out at b)) ∙ set-out out at b h
+
+-- a byte behind a text may be put before it
+pub put-all-behind : (out : List ℕ) (at : ℕ) (bs : List ℕ) (place b : ℕ) → at + length bs ≤ place
+    → putAll (set out place b) at bs ≡ set (putAll out at bs) place b
+put-all-behind out at [] place b h = refl
+put-all-behind out at (c ∷ cs) place b h =
+    ap (λ (l : List ℕ). putAll l (suc at) cs) (set-comm out place at b c (omega arith)) ∙ put-all-behind (set out at c) (suc at) cs place b (omega arith)
 
 -- a text that fits, and what was there around it
 pub put-all-fits : (out : List ℕ) (at : ℕ) (bs : List ℕ) → at + length bs ≤ length out → putAll out at bs ≡ take at out ++ (bs ++ drop (at + length bs) out)
@@ -100,3 +107,38 @@ module _ {out₀ : List ℕ} {at : ℕ} {s out : List ℕ} {i place : ℕ} (p : 
 
   pub putting-keeps : length out ≡ length out₀
   putting-keeps = ap length (p .left) ∙ length-put-all out₀ at (take i s)
+
+-- of a text that is put at a place, what is left of it and where that goes: once it is put there, the whole text is put
+pub record Onward (out₀ : List ℕ) (at : ℕ) (whole out : List ℕ) (place : ℕ) (rest : List ℕ) : Type 0 where
+  pub left : putAll out place rest ≡ putAll out₀ at whole
+  pub after : further place (length rest) ≡ further at (length whole)
+  pub kept : length out ≡ length out₀
+
+pub onward-all : (out : List ℕ) (at : ℕ) (whole : List ℕ) → Onward out at whole out at whole
+onward-all out at whole = record { left = refl; after = refl; kept = refl }
+
+module _ {out₀ : List ℕ} {at : ℕ} {whole out : List ℕ} {place : ℕ} {rest : List ℕ} (o : Onward out₀ at whole out place rest) where
+  -- a part of what is left is put
+  pub onward : (bs cs : List ℕ) → rest ≡ bs ++ cs → (out′ : List ℕ) (place′ : ℕ) → length out₀ ≤ last → out′ ≡ putAll out place bs
+      → place′ ≡ further place (length bs) → Onward out₀ at whole out′ place′ cs
+  onward bs cs parts out′ place′ short e f =
+      record {
+        left =
+            ap (λ (l : List ℕ). putAll l place′ cs) e ∙ ap (λ (i : ℕ). putAll (putAll out place bs) i cs) f
+            ∙ put-all-on out place bs cs (omega (arith, o .kept)) ∙ ap (putAll out place) (sym parts) ∙ o .left;
+        after =
+            ap (λ (i : ℕ). further i (length cs)) f ∙ place-on place bs cs ∙ ap (λ (l : List ℕ). further place (length l)) (sym parts) ∙ o .after;
+        kept = ap length e ∙ length-put-all out place bs ∙ o .kept;
+      }
+
+  -- all that is left is put
+  pub onward-last : (out′ : List ℕ) (place′ : ℕ) → out′ ≡ putAll out place rest → place′ ≡ further place (length rest)
+      → (out′ ≡ putAll out₀ at whole) × (place′ ≡ further at (length whole))
+  onward-last out′ place′ e f = (e ∙ o .left, f ∙ o .after)
+
+  -- nothing is left
+  pub onward-none : rest ≡ [] → place ≤ last → (out ≡ putAll out₀ at whole) × (place ≡ further at (length whole))
+  onward-none none there = (
+    ap (putAll out place) (sym none) ∙ o .left,
+    sym (further-none place there) ∙ ap (λ (l : List ℕ). further place (length l)) (sym none) ∙ o .after,
+  )

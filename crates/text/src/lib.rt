@@ -4,7 +4,7 @@ ghost use mathlib.Core.Path.{_≡_};
 ghost use Prim.Native.Nat.{_+_, _<_};
 ghost use lib.ListN.{length, set};
 ghost use Rattle.place.specs.Place.{further};
-ghost use Rattle.token.specs.Format.{digitsOf};
+ghost use Rattle.token.specs.Format.{digitsOf, shortest};
 ghost use Rattle.text.specs.Put.{putAll};
 
 // One byte at a place, if the place is there.
@@ -45,13 +45,99 @@ fn digit(d: u64) -> u8
     b'0' + d as u8
 }
 
+// How many decimal digits a number below 100,000 has.
+fn few_digits(v: u64) -> usize
+    requires { ⌜ v < 100000 ⌝ }
+    ensures { λ r. ⌜ r ≡ length (digitsOf v) ⌝ }
+{
+    if v < 10 {
+        return 1;
+    }
+    if v < 100 {
+        return 2;
+    }
+    if v < 1000 {
+        return 3;
+    }
+    if v < 10000 {
+        return 4;
+    }
+    5
+}
+
+// How many decimal digits a number has.
+fn digit_count(v: u64) -> usize
+    ensures { λ r. ⌜ r ≡ length (digitsOf v) ⌝ }
+{
+    let mut n: usize = 0;
+    let mut rest = v;
+    while 100000 <= rest {
+        n += 5;
+        rest = rest / 100000;
+    }
+    n + few_digits(rest)
+}
+
+// The decimal digits of a number from a place on, as far as they fit. They are made from the last one to the first.
+fn digits_from(out: &mut [u8], at: usize, v: u64, n: usize)
+    requires { ⌜ (at < length (now out)) × (n ≡ length (digitsOf v)) ⌝ }
+    ensures { λ _. ⌜ now (out .exit) ≡ putAll (now (out .entry)) at (digitsOf v) ⌝ }
+{
+    let mut place = at + n - 1;
+    let mut rest = v;
+    while 10 <= rest {
+        store(out, place, digit(rest % 10));
+        place -= 1;
+        rest = rest / 10;
+    }
+    store(out, place, digit(rest));
+}
+
 // The decimal digits of a number, as far as they fit; the place after them.
 pub fn put_decimal(out: &mut [u8], at: usize, v: u64) -> usize
     ensures { λ r. ⌜ (now (out .exit) ≡ putAll (now (out .entry)) at (digitsOf v)) × (r ≡ further at (length (digitsOf v))) ⌝ }
 {
-    if v < 10 {
-        return put(out, at, digit(v));
+    let n = digit_count(v);
+    if out.len() <= at {
+        return place::further(at, n);
     }
-    let last = put_decimal(out, at, v / 10);
-    put(out, last, digit(v % 10))
+    digits_from(out, at, v, n);
+    at + n
+}
+
+// How many groups of seven bits a number takes.
+fn group_count(d: u32) -> usize
+    ensures { λ r. ⌜ r ≡ length (shortest d) ⌝ }
+{
+    if d < 128 {
+        return 1;
+    }
+    if d < 16384 {
+        return 2;
+    }
+    if d < 2097152 {
+        return 3;
+    }
+    if d < 268435456 {
+        return 4;
+    }
+    5
+}
+
+// A number in groups of seven bits, the low group first, in its fewest bytes, as far as they fit; the place after them.
+pub fn put_groups(out: &mut [u8], at: usize, d: u32) -> usize
+    ensures { λ r. ⌜ (now (out .exit) ≡ putAll (now (out .entry)) at (shortest d)) × (r ≡ further at (length (shortest d))) ⌝ }
+{
+    if out.len() <= at {
+        return place::further(at, group_count(d));
+    }
+    let mut place = at;
+    let mut rest = d;
+    while 128 <= rest {
+        store(out, place, (128 + rest % 128) as u8);
+        place += 1;
+        rest = rest / 128;
+    }
+    store(out, place, rest as u8);
+    place + 1
 }

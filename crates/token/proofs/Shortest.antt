@@ -61,7 +61,7 @@ groups-grouped zero d h = final h
 groups-grouped (suc k) d h =
     cases k d Grouped (λ small. final small) (λ big. group (omega arith) (omega arith) (groups-grouped k (d / 128) (higher k d h)))
 
-groups-few : (k d : ℕ) → length (groupsUpTo k d) ≤ suc k
+pub groups-few : (k d : ℕ) → length (groupsUpTo k d) ≤ suc k
 groups-few zero d = omega arith
 groups-few (suc k) d =
     cases k d (λ (bs : List ℕ). length bs ≤ suc (suc k)) (λ small. omega arith) (λ big. omega (arith, groups-few k (d / 128)))

@@ -1,11 +1,12 @@
-//! A real file: read, if it is binary, and renumbered by the port and by the crate as it stands and renamed at random, with all flags, and written again as the port ordered
-//! it, which is read again.
+//! A real file: read, if it is binary, and written again; renumbered by the port and by the crate as it stands and renamed at random, with all flags, and written by the
+//! port as the port ordered it, which is read again.
 use crate::{
     aiger::{self, File},
     binary,
     outcome::{by_crate, by_port, difference, Lists, Outcome},
+    writing,
 };
-use judge::{circuit::Circuit, random::Random};
+use judge::{circuit::Circuit, random::Random, write_words::plain};
 use std::{fs, path::Path, process::exit};
 
 const LIMIT: u64 = 1_048_575;
@@ -21,6 +22,11 @@ pub fn compare(path: &str, folder: &str, seed: u64) {
     if bytes.starts_with(b"aig ") {
         let used = binary::whole(&bytes, &file.circuit);
         println!("  read and expanded by the port as by the crate, {used} of {} bytes", bytes.len());
+        let written = writing::whole(&file);
+        let same = plain(&bytes[..used]);
+        assert!((written == bytes[..used]) == same, "a file that is read and written is the same just when it is plain");
+        binary::whole(&written, &file.circuit);
+        println!("  written by the port as by the crate, {} bytes, {}the same, and read again", written.len(), if same { "" } else { "not " });
     }
     let mut random = Random(seed);
     let shuffled = renamed(&file.circuit, &mut random, false);
@@ -31,7 +37,7 @@ pub fn compare(path: &str, folder: &str, seed: u64) {
         made.push(counts.collect::<Vec<_>>().join(" "));
     }
     made.dedup();
-    println!("  24 outcomes alike, and the 24 files that were written are read alike; gates made with the flags 0 to 7: {}", made.join("; "));
+    println!("  24 outcomes alike, and the 24 files that the port and the crate wrote alike are read alike; gates made with the flags 0 to 7: {}", made.join("; "));
 }
 
 /// One outcome, compared and written: the number of gates made.
@@ -46,7 +52,9 @@ fn one(file: &File, circuit: &Circuit, order: &str, flags: u64, folder: &str) ->
     assert_eq!(port.number, 0, "a file's circuit can be ordered");
     let ordered = File { circuit: ordered(&circuit, &port), resets: file.resets.clone(), justice: file.justice.clone() };
     let path = Path::new(folder).join(format!("{order}-{flags}.aig"));
-    let written = aiger::write(&ordered);
+    // with resets and every count, by a writer of our own, which is read; and by the port, for abc
+    binary::whole(&aiger::write(&ordered), &ordered.circuit);
+    let written = writing::whole(&ordered);
     binary::whole(&written, &ordered.circuit);
     fs::write(path, written).expect("the file can be written");
     port.words[1]

@@ -8,6 +8,10 @@
 //!     against_port binary random SEED COUNT MAXGATES    good and damaged binary files in lists of every length near the needed one
 //!     against_port binary large                  binary files at the limits and one over
 //!     against_port expansions SEED COUNT         ordered circuits expanded, at the limits too
+//!     against_port write small                   every small ordered circuit of some forms, written
+//!     against_port write random SEED COUNT MAXGATES
+//!     against_port write large                   ordered circuits at the limits and one over, written
+//!     against_port write trips SEED COUNT MAXGATES   files read and written again
 //!     against_port file FILE FOLDER SEED         an AIGER file in three orders, with all flags; writes FOLDER/ORDER-FLAGS.aig as the port ordered it
 //!     against_port flip FILE WHICH TO            the file with one literal flipped: of a next state, a root or a gate (WHICH)
 //!
@@ -18,6 +22,7 @@ mod file;
 mod outcome;
 mod reading;
 mod shrink;
+mod writing;
 
 use judge::{circuit::Circuit, circuit_kinds, random::Random};
 use outcome::{by_crate, by_port, Lists};
@@ -82,6 +87,7 @@ fn main() {
         ["sharing", s, c, g] => random(&mut tally, Random(number(s)), number(c), number(g), sharing),
         ["large"] => large(&mut tally),
         ["binary", ref run @ ..] => return binary_files(run),
+        ["write", ref run @ ..] => return written(run),
         ["expansions", s, c] => return binary::expansions(Random(number(s)), number(c)),
         ["file", path, folder, seed] => return file::compare(path, folder, number(seed)),
         ["flip", path, which, to] => return file::flip(path, which, to),
@@ -100,6 +106,7 @@ fn main() {
 fn misused() -> ! {
     eprintln!("usage: against_port small | random SEED COUNT MAXGATES | sharing SEED COUNT MAXGATES | large");
     eprintln!("     | binary small | binary random SEED COUNT MAXGATES | binary large | expansions SEED COUNT");
+    eprintln!("     | write small | write random SEED COUNT MAXGATES | write large | write trips SEED COUNT MAXGATES");
     eprintln!("     | file FILE FOLDER SEED | flip FILE WHICH TO");
     exit(2)
 }
@@ -115,6 +122,21 @@ fn binary_files(run: &[&str]) {
         _ => misused(),
     }
     tally.tell(&format!("binary {}", run.join(" ")));
+}
+
+/// A run over ordered circuits that are written, and what it found.
+fn written(run: &[&str]) {
+    let number = |text: &str| text.parse::<u64>().expect("a number");
+    judge::write_crate::silent();
+    let mut tally = writing::Tally::default();
+    match *run {
+        ["small"] => writing::small(&mut tally),
+        ["random", s, c, g] => writing::random(&mut tally, Random(number(s)), number(c), number(g)),
+        ["large"] => writing::large(&mut tally),
+        ["trips", s, c, g] => return writing::trips(Random(number(s)), number(c), number(g)),
+        _ => misused(),
+    }
+    tally.tell(&format!("write {}", run.join(" ")));
 }
 
 /// Every circuit of up to two gates over an input, with a root, and of up to one gate with a latch too; all codes of V = G + 2, or of V = G + 3 beside a latch,

@@ -1,8 +1,8 @@
 //! The crate behind entries that C can call, so that one driver runs it and the port on the same input. The reader under token.rs is the
 //! stand-in's, over bytes in memory.
-use flussab::{text::LineReader, DeferredReader};
+use flussab::{text::LineReader, DeferredReader, DeferredWriter};
 use flussab_aiger::{
-    aig::{Aig, AndGate, OrderedAig, Renumber, RenumberConfig},
+    aig::{Aig, AndGate, OrderedAig, OrderedAndGate, OrderedLatch, Renumber, RenumberConfig},
     binary, token, ParseError,
 };
 use std::{ptr, slice};
@@ -171,4 +171,85 @@ fn sum(read: &OrderedAig<u32>, sizes: &[usize]) -> u64 {
         + roots.map(|list| words(list)).iter().sum::<u64>()
         + words(&read.justice_properties[0])
         + sizes.iter().map(|&size| size as u64).sum::<u64>()
+}
+
+/// An ordered circuit for `crate_write`; it is never freed. Gates come flat, two words each, roots in the walk's order with their five counts, and each
+/// justice set has its size.
+///
+/// # Safety
+/// Each pointer points to as many words as its length says, and `counts` to five.
+#[no_mangle]
+pub unsafe extern "C" fn crate_ordered(
+    inputs: u32,
+    counts: *const u32,
+    nexts: *const u32,
+    nexts_length: usize,
+    gates: *const u32,
+    gates_length: usize,
+    sizes: *const u32,
+    sizes_length: usize,
+    roots: *const u32,
+    roots_length: usize,
+) -> *mut OrderedAig<u32> {
+    let words = |pointer, length| unsafe { slice::from_raw_parts(pointer, length) };
+    let mut roots = words(roots, roots_length).iter().copied();
+    let mut next = |count: u32| roots.by_ref().take(count as usize).collect::<Vec<u32>>();
+    let counts: [u32; 5] = words(counts, 5).try_into().expect("five counts");
+    let [outputs, bad_state_properties, invariant_constraints, fairness_constraints, justice] = counts.map(&mut next);
+    let mut justice = justice.into_iter();
+    let sizes = words(sizes, sizes_length);
+    let latch = |&next_state: &u32| OrderedLatch { next_state, initialization: Some(false) };
+    Box::into_raw(Box::new(OrderedAig {
+        max_var_index: inputs as usize + nexts_length + gates_length / 2,
+        input_count: inputs as usize,
+        latches: words(nexts, nexts_length).iter().map(latch).collect(),
+        outputs,
+        bad_state_properties,
+        invariant_constraints,
+        justice_properties: sizes.iter().map(|&size| justice.by_ref().take(size as usize).collect()).collect(),
+        fairness_constraints,
+        and_gates: words(gates, gates_length).chunks(2).map(|pair| OrderedAndGate { inputs: [pair[0], pair[1]] }).collect(),
+        ..OrderedAig::default()
+    }))
+}
+
+/// Writes an ordered circuit into the bytes, of which there are enough: how many it took.
+///
+/// # Safety
+/// `circuit` comes from `crate_ordered`, and `out` points to `length` bytes that can be written.
+#[no_mangle]
+pub unsafe extern "C" fn crate_write(circuit: *const OrderedAig<u32>, out: *mut u8, length: usize) -> usize {
+    written(unsafe { &*circuit }, unsafe { slice::from_raw_parts_mut(out, length) })
+}
+
+/// Reads a file of which no reset is kept, renumbers it with the flags and writes what comes of it: how many bytes that took, or none where the crate refuses it.
+///
+/// # Safety
+/// `bytes` points to `length` bytes that can be read, `out` to `room` bytes that can be written.
+#[no_mangle]
+pub unsafe extern "C" fn crate_whole(bytes: *const u8, length: usize, flags: u32, out: *mut u8, room: usize) -> usize {
+    let bytes = unsafe { slice::from_raw_parts(bytes, length) };
+    let Ok(FileRead(mut read, sizes)) = staged(bytes) else { return 0 };
+    let mut justice = read.justice_properties.pop().unwrap_or_default().into_iter();
+    read.justice_properties = sizes.iter().map(|&size| justice.by_ref().take(size).collect()).collect();
+    read.latches.iter_mut().for_each(|latch| latch.initialization = Some(false));
+    let config = RenumberConfig::default()
+        .trim(flags & 1 != 0)
+        .structural_hash(flags & 2 != 0)
+        .const_fold(flags & 4 != 0);
+    match Renumber::renumber_aig(config, &Aig::from(read)) {
+        Ok((ordered, _)) => written(&ordered, unsafe { slice::from_raw_parts_mut(out, room) }),
+        Err(_) => 0,
+    }
+}
+
+/// The crate's writer over bytes in memory.
+fn written(circuit: &OrderedAig<u32>, out: &mut [u8]) -> usize {
+    let all = out.len();
+    let mut left = &mut *out;
+    let mut writer = binary::Writer::<u32>::new(DeferredWriter::from_write(&mut left));
+    writer.write_ordered_aig(circuit);
+    writer.check_io_error().expect("room for the file");
+    drop(writer);
+    all - left.len()
 }

@@ -1,0 +1,70 @@
+-- What a circuit that passed its checks gives to its writer: sums that fit, gates in order, its header; and each end of writing. Assumes nothing.
+use Prim.Native.Nat.{ℕ, _+_, _/_, _≤_, _<_}
+use mathlib.Core.Path.{_≡_, refl, sym, ap, ap₂, _∙_, subst⁻¹}
+use mathlib.Core.List.{List, [], _++_}
+use native.Mathlib.Omega.{arith}
+use lib.ListN.{length}
+use borrow.Author.Tests.{lt-ltb, le-ltb}
+use Rattle.place.specs.Place.{last, further}
+use Rattle.text.specs.Put.{putAll}
+use Rattle.text.proofs.Puts.{put-all-past}
+use Rattle.circuit.specs.Ordered.{InOrder}
+use Rattle.circuit.specs.Outcome.{limit, onto, pairsOf}
+use Rattle.lines.specs.declared.Header.{Header}
+use Rattle.ordered.specs.declared.given.Fault.the-variants.{Short}
+use Rattle.ordered.specs.Check.{Words}
+use Rattle.ordered.specs.Given.{Given}
+use Rattle.ordered.proofs.Laid.{put-onto, pairs-length}
+use Rattle.binary.specs.declared.FileWritten.the-variants.{Written, Unwritten}
+use Rattle.binary.specs.Write.{headerWith, headerFor, partsOf, fileOf, fileIn, wrote, writtenTo}
+use Rattle.binary.proofs.Lengths.{file-short}
+
+module _ (w : Words) (g : Given w) where
+  pub few : (w .inputs + length (w .nexts) + length (w .gates) / 2 ≤ limit) × (length (w .sizes) ≤ limit)
+  few = (omega (arith, g .ordered .variables, pairs-length (w .gates)), g .sets)
+
+  -- its codes fit a word, and its gates are in order
+  pub ready : (h : Header) → h ≡ headerWith (w .inputs) (w .counts) (length (w .nexts)) (length (w .gates) / 2) (length (w .sizes))
+      → (h .inputs + length (w .nexts) + length (w .gates) ≤ 4194303) × InOrder (h .inputs + length (w .nexts)) (pairsOf (w .gates))
+  ready h e =
+      subst⁻¹ (λ (x : Header). (x .inputs + length (w .nexts) + length (w .gates) ≤ 4194303) × InOrder (x .inputs + length (w .nexts)) (pairsOf (w .gates))) e
+      (omega (arith, few .0), g .ordered .gates)
+
+  -- the header that the writer makes is the file's
+  pub its-header : (h : Header) → h ≡ headerWith (w .inputs) (w .counts) (length (w .nexts)) (length (w .gates) / 2) (length (w .sizes))
+      → h ≡ headerFor (fileIn w)
+  its-header h e = e ∙ ap (λ (a : ℕ). headerWith (w .inputs) (w .counts) (length (w .nexts)) a (length (w .sizes))) (sym (pairs-length (w .gates)))
+
+  pub its-parts : (h : Header) → h ≡ headerFor (fileIn w)
+      → partsOf h (w .nexts) (w .sizes) (w .roots) (h .inputs + length (w .nexts)) (pairsOf (w .gates)) ≡ fileOf (fileIn w)
+  its-parts h e = ap (λ (x : Header). partsOf x (w .nexts) (w .sizes) (w .roots) (x .inputs + length (w .nexts)) (pairsOf (w .gates))) e
+
+  -- the place after all of it is its length
+  pub measured : (h : Header) → h ≡ headerFor (fileIn w) → (n : ℕ)
+      → n ≡ further 0 (length (partsOf h (w .nexts) (w .sizes) (w .roots) (h .inputs + length (w .nexts)) (pairsOf (w .gates))))
+      → n ≡ length (fileOf (fileIn w))
+  measured h e n m =
+      let whole = its-parts h e in
+      let short = file-short (headerFor (fileIn w)) (w .nexts) (w .sizes) (w .roots) (w .inputs + length (w .nexts)) (pairsOf (w .gates))
+      (omega (arith, few .0)) (g .sets) (g .ordered .few) (omega (arith, few .0, pairs-length (w .gates))) in
+      m ∙ ap (λ (l : List ℕ). further 0 (length l)) whole ∙ omega (arith, short)
+
+  -- nothing is put into no bytes
+  pub none-put : (h : Header) (out : List ℕ)
+      → out ≡ putAll [] 0 (partsOf h (w .nexts) (w .sizes) (w .roots) (h .inputs + length (w .nexts)) (pairsOf (w .gates))) → out ≡ []
+  none-put h out e = e ∙ put-all-past [] 0 (partsOf h (w .nexts) (w .sizes) (w .roots) (h .inputs + length (w .nexts)) (pairsOf (w .gates))) (omega arith)
+
+  pub too-short : (out : List ℕ) (n : ℕ) → n ≡ length (fileOf (fileIn w)) → length out < n
+      → wrote (Unwritten Short n) out ≡ writtenTo (fileOf (fileIn w)) out
+  too-short out n e h = rw (lt-ltb (length out) (length (fileOf (fileIn w))) (omega (arith, e, h))) (ap (λ (k : ℕ). wrote (Unwritten Short k) out) e)
+
+  -- the bytes that fit are put, after nothing was
+  pub whole : (h : Header) → h ≡ headerFor (fileIn w) → (none out out′ : List ℕ) (n : ℕ) → n ≡ length (fileOf (fileIn w)) → n ≤ length out → none ≡ []
+      → out′ ≡ putAll (none ++ out) 0 (partsOf h (w .nexts) (w .sizes) (w .roots) (h .inputs + length (w .nexts)) (pairsOf (w .gates)))
+      → wrote (Written n) out′ ≡ writtenTo (fileOf (fileIn w)) out
+  whole h e none out out′ n m fits nothing put =
+      let parts = partsOf h (w .nexts) (w .sizes) (w .roots) (h .inputs + length (w .nexts)) (pairsOf (w .gates)) in
+      let there : out′ ≡ onto (fileOf (fileIn w)) out
+      = put ∙ ap (λ (x : List ℕ). putAll (x ++ out) 0 parts) nothing ∙ ap (putAll out 0) (its-parts h e)
+      ∙ put-onto out (fileOf (fileIn w)) (omega (arith, m, fits)) in
+      rw (le-ltb (length out) (length (fileOf (fileIn w))) (omega (arith, m, fits))) (ap₂ (λ (k : ℕ) (l : List ℕ). wrote (Written k) l) m there)

@@ -1,0 +1,286 @@
+-- What is written of a file spells it, section by section, and so it is read back. A file that was read can be written, and so can a circuit that is lent; and
+-- what writing leaves of the bytes. Assumes nothing.
+use Prim.Native.Nat.{ℕ, zero, suc, _+_, _-_, _*_, _/_, _^_, _≤_, _<_}
+use mathlib.Core.Path.{_≡_, refl, sym, ap, _∙_, subst⁻¹}
+use mathlib.Core.Bool.{Bool, true, false, cond}
+use mathlib.Core.List.{List, [], _∷_, _++_}
+use native.Mathlib.Omega.{arith}
+use lib.Dec.{ltb}
+use lib.ListN.{length, getD, take, drop}
+use lib.Seq.{take-all}
+use borrow.Author.Tests.{ltb-true, ltb-false}
+use Rattle.token.specs.Format.{Grouped, final, group, groupsValue, shortest}
+use Rattle.token.specs.declared.Token.{Token}
+use Rattle.token.specs.declared.Token.the-variants.{Value}
+use Rattle.token.proofs.Theorems.{grouped-reads, shortest-reads-back}
+use Rattle.text.proofs.Groups.{groups-one, groups-more, groups-few}
+use Rattle.circuit.specs.Walk.{Pair, firstCode}
+use Rattle.circuit.specs.Ordered.{Ordered, noPair, sourcesOf}
+use Rattle.circuit.specs.Outcome.{limit, total, onto}
+use Rattle.lines.specs.declared.Header.{Header}
+use Rattle.lines.specs.Reading.{got}
+use Rattle.lines.specs.Limits.{Within}
+use Rattle.lines.specs.Sections.{Roots, rootsOf, topCode, rootCount, headerAt}
+use Rattle.lines.specs.Spelling.{Row, Latches, Rooting}
+use Rattle.lines.proofs.Heads.{two}
+use Rattle.sections.specs.Bytes.{linesBytes, afterTag, rootsBytes}
+use Rattle.sections.proofs.Spelled.{in-a-row, at-last}
+use Rattle.sections.proofs.Theorems.{latches-spelled, header-spelled, roots-spelled}
+use Rattle.ordered.specs.declared.given.Fault.{Fault}
+use Rattle.ordered.specs.declared.given.Fault.the-variants.{Short}
+use Rattle.ordered.specs.declared.given.Checked.{Checked}
+use Rattle.ordered.specs.declared.given.Checked.the-variants.{Fits, Faulty}
+use Rattle.ordered.specs.Check.{Words, wordsOf, checked}
+use Rattle.ordered.specs.Given.{Given}
+use Rattle.ordered.proofs.Laid.{pairs-of-words}
+use Rattle.ordered.proofs.Theorems.{fits-exactly, always-fits}
+use Rattle.binary.specs.declared.FileWritten.the-variants.{Written, Unwritten}
+use Rattle.binary.specs.File.{File, Room, tag, countsOf, fileWith, bodyAt, readFile}
+use Rattle.binary.specs.Spelling.{Delta, Gate, Gates, Sized, Listed, Spells}
+use Rattle.binary.specs.Write.{headerFor, gateBytes, gatesBytes, partsOf, fileOf, fileIn, Writing, wrote, writtenTo, writtenAs, writing}
+use Rattle.binary.specs.Sound.{Sound, Holds}
+use Rattle.binary.proofs.Reading.{nothing-good-refused}
+use Rattle.binary.proofs.Whole.{body-announced}
+use Rattle.binary.proofs.Known.{read-known}
+
+-- deltas
+
+-- a number is written by one byte, or by one and those of a smaller number
+shortest-grouped : (most d : ℕ) → d ≤ most → d < 2 ^ 56 → Grouped (shortest d)
+shortest-grouped zero d low fits = subst⁻¹ Grouped (groups-one d (omega arith)) (final (omega arith))
+shortest-grouped (suc most) d low fits = go (ltb d 128) refl (λ big. shortest-grouped most (d / 128) (omega arith) (omega arith))
+  where
+    go : (b : Bool) → ltb d 128 ≡ b → (128 ≤ d → Grouped (shortest (d / 128))) → Grouped (shortest d)
+    go true e rest = subst⁻¹ Grouped (groups-one d (ltb-true d 128 e)) (final (ltb-true d 128 e))
+    go false e rest =
+        let big = ltb-false d 128 e in
+        subst⁻¹ Grouped (groups-more d big fits) (group (omega arith) (omega arith) (rest big))
+
+same-value : {t : Token} {a b n : ℕ} → t ≡ Value a n → t ≡ Value b n → a ≡ b
+same-value {t} {a} {b} {n} e f = let g : Value a n ≡ Value b n = sym e ∙ f in cc
+
+delta-spelled : (reference v d : ℕ) → v ≤ reference → d ≡ reference - v → d < 2 ^ 56 → Delta reference v (shortest d)
+delta-spelled reference v d low e fits =
+    let g : Grouped (shortest d) = shortest-grouped d d (omega arith) fits in
+    let few : length (shortest d) ≤ 8 = groups-few d fits in
+    let value : groupsValue (shortest d) ≡ d = same-value (grouped-reads (shortest d) g few [] []) (shortest-reads-back d fits [] []) in
+    (low, g, few, value ∙ e)
+
+-- gates
+
+gate-spelled : (n k code : ℕ) (p : Pair) → code ≡ firstCode n + 2 * k → p .smaller ≤ p .larger → p .larger < firstCode n + 2 * k
+    → firstCode n + 2 * k < 2 ^ 56 → Gate n k p (gateBytes code p)
+gate-spelled n k code p e falls below fits =
+    let first : Delta (firstCode n + 2 * k) (p .larger) (shortest (code - p .larger)) =
+    delta-spelled (firstCode n + 2 * k) (p .larger) (code - p .larger) (omega arith) (omega arith) (omega arith) in
+    let second : Delta (p .larger) (p .smaller) (shortest (p .larger - p .smaller)) =
+    delta-spelled (p .larger) (p .smaller) (p .larger - p .smaller) falls refl (omega arith) in
+    let known : ℕ → Pair = λ b. record { larger = p .larger; smaller = b } in
+    (below, in-a-row (p .larger) (shortest (code - p .larger)) (shortest (p .larger - p .smaller)) first (at-last known (p .smaller) second refl))
+
+gates-spelled : (n k code : ℕ) (gs : List Pair) → code ≡ firstCode n + 2 * k
+    → ((j : ℕ) → j < length gs → (getD gs j noPair .smaller ≤ getD gs j noPair .larger) × (getD gs j noPair .larger < firstCode n + 2 * (k + j)))
+    → firstCode n + 2 * (k + length gs) < 2 ^ 56 → Row (Gate n) k gs (gatesBytes code gs)
+gates-spelled n k code [] e falls fits = refl
+gates-spelled n k code (p ∷ ps) e falls fits =
+    let here : (p .smaller ≤ p .larger) × (p .larger < firstCode n + 2 * (k + 0)) = falls 0 (omega arith) in
+    let gate : Gate n k p (gateBytes code p) = gate-spelled n k code p e (here .0) (omega (arith, here .1)) (omega arith) in
+    let rest : Row (Gate n) (suc k) ps (gatesBytes (code + 2) ps) =
+    gates-spelled n (suc k) (code + 2) ps (omega arith) (λ j h. later j (falls (suc j) (omega arith))) (omega arith) in
+    (gateBytes code p, gatesBytes (code + 2) ps, gate, rest, refl)
+  where
+    later : (j : ℕ) → (getD ps j noPair .smaller ≤ getD ps j noPair .larger) × (getD ps j noPair .larger < firstCode n + 2 * (k + suc j))
+        → (getD ps j noPair .smaller ≤ getD ps j noPair .larger) × (getD ps j noPair .larger < firstCode n + 2 * (suc k + j))
+    later j (a, b) = (a, omega arith)
+
+codes-fit : (n m : ℕ) → n + m ≤ limit → firstCode n + 2 * (0 + m) < 2 ^ 56
+unfolding firstCode
+codes-fit n m few = omega arith
+
+-- the row of counts
+
+five-counts : (l : List ℕ) → length l ≡ 5 → l ≡ getD l 0 0 ∷ getD l 1 0 ∷ getD l 2 0 ∷ getD l 3 0 ∷ getD l 4 0 ∷ []
+five-counts [] e = absurd (omega arith)
+five-counts (o ∷ []) e = absurd (omega arith)
+five-counts (o ∷ b ∷ []) e = absurd (omega arith)
+five-counts (o ∷ b ∷ c ∷ []) e = absurd (omega arith)
+five-counts (o ∷ b ∷ c ∷ f ∷ []) e = absurd (omega arith)
+five-counts (o ∷ b ∷ c ∷ f ∷ j ∷ []) e = refl
+five-counts (o ∷ b ∷ c ∷ f ∷ j ∷ x ∷ l) e = absurd (omega arith)
+
+-- the whole file
+
+module _ (f : File) (k : Sound f) where
+  its-counts : f .ordered .counts ≡ countsOf (headerFor f) (f .sizes)
+  its-counts =
+      let cs : List ℕ = f .ordered .counts in
+      five-counts cs (k .five) ∙ ap (λ (j : ℕ). getD cs 0 0 ∷ getD cs 1 0 ∷ getD cs 2 0 ∷ getD cs 3 0 ∷ j ∷ []) (sym (k .sizes))
+
+  its-roots : length (f .ordered .roots) ≡ rootCount (headerFor f) (total (f .sizes))
+  its-roots =
+      let sum : total (f .ordered .counts) ≡ total (countsOf (headerFor f) (f .sizes)) = ap total its-counts in
+      omega (arith, sum, k .wellOrdered .counts)
+
+  its-header : Within (headerFor f)
+  its-header =
+      record {
+        top = k .wellOrdered .variables;
+        defined = omega arith;
+        outputs = omega (arith, its-roots, k .wellOrdered .few);
+        bad = omega (arith, its-roots, k .wellOrdered .few);
+        constraints = omega (arith, its-roots, k .wellOrdered .few);
+        justice = k .sets;
+        fairness = omega (arith, its-roots, k .wellOrdered .few);
+      }
+
+  module _ (room : Room) (fits : Holds room f) where
+    abbrev h : Header
+    h = headerFor f
+
+    abbrev O : Ordered
+    O = f .ordered
+
+    abbrev r : Roots
+    r = rootsOf (f .sizes) (f .ordered .roots)
+
+    latches : Latches (topCode h) (h .latches) (O .nexts) (linesBytes (O .nexts))
+    latches =
+        latches-spelled (topCode h) (O .nexts) (k .wellOrdered .nexts) (λ v i. omega (arith, k .wellOrdered .nexts v i, k .wellOrdered .variables))
+
+    roots : Rooting h (topCode h) (room .roots) r (rootsBytes h r)
+    roots =
+        roots-spelled h (topCode h) (room .roots) r refl its-roots (omega (arith, its-roots, k .wellOrdered .few)) (omega (arith, its-roots, fits .roots))
+        (omega (arith, k .wellOrdered .variables)) (k .wellOrdered .roots)
+
+    gates : Gates (h .inputs + h .latches) (h .gates) (O .gates) (gatesBytes (firstCode (sourcesOf O)) (O .gates))
+    gates =
+        let n : ℕ = sourcesOf O in (
+          refl,
+          gates-spelled n 0 (firstCode n) (O .gates) (omega arith) (λ j i. from-zero j (k .wellOrdered .gates j i))
+              (codes-fit n (length (O .gates)) (k .wellOrdered .variables)),
+        )
+      where
+        from-zero : (j : ℕ) → (getD (O .gates) j noPair .smaller ≤ getD (O .gates) j noPair .larger)
+            × (getD (O .gates) j noPair .larger < firstCode (sourcesOf O) + 2 * j)
+            → (getD (O .gates) j noPair .smaller ≤ getD (O .gates) j noPair .larger)
+            × (getD (O .gates) j noPair .larger < firstCode (sourcesOf O) + 2 * (0 + j))
+        from-zero j (a, b) = (a, omega arith)
+
+    its-parts : f ≡ fileWith h (O .nexts) r (O .gates)
+    its-parts = ap with-counts its-counts
+      where
+        with-counts : List ℕ → File
+        with-counts cs =
+            record {
+              ordered = record { inputs = O .inputs; nexts = O .nexts; gates = O .gates; counts = cs; roots = O .roots };
+              sizes = f .sizes;
+            }
+
+    pub file-spelled : Spells room f (fileOf f)
+    unfolding partsOf
+    file-spelled =
+        let behind : List ℕ = rootsBytes h r ++ gatesBytes (firstCode (sourcesOf O)) (O .gates) in
+        let lists : List ℕ = linesBytes (O .nexts) ++ behind in
+        let sized : Sized h room tt [] =
+        (omega arith, record { nexts-fit = fits .nexts; gates-fit = fits .gates; sizes-fit = fits .sizes }, refl) in
+        let known : List Pair → File = λ gs. fileWith h (O .nexts) r gs in
+        let listed : Listed room h f lists =
+        in-a-row (O .nexts) (linesBytes (O .nexts)) behind latches
+        (in-a-row r (rootsBytes h r) (gatesBytes (firstCode (sourcesOf O)) (O .gates)) roots (at-last known (O .gates) gates its-parts)) in
+        (afterTag h ++ lists, refl, in-a-row h (afterTag h) lists (header-spelled h its-header) (in-a-row tt [] lists sized listed))
+
+    pub reads-back : (after : List ℕ) → readFile (fileOf f ++ after) room ≡ got f (length (fileOf f))
+    reads-back after = nothing-good-refused room f (fileOf f) after file-spelled
+
+-- a file that was read can be written
+pub read-sound : (s : List ℕ) (room : Room) (f : File) (n : ℕ) → readFile s room ≡ got f n → Sound f
+unfolding readFile
+read-sound s room f n e =
+    let t = two (headerAt s tag) (λ h at. bodyAt s room h at) f n e in
+    let counts : f .ordered .counts ≡ countsOf (t .first) (f .sizes) = body-announced s room (t .first) (t .place) f n (t .then) .counts in
+    let known = read-known s room f n e in
+    record {
+      wellOrdered = known .wellOrdered;
+      five = ap length counts;
+      sizes = sym (ap (λ (l : List ℕ). getD l 4 0) counts);
+      sets = known .sets;
+    }
+
+-- and its lists hold it
+pub read-holds : (s : List ℕ) (room : Room) (f : File) (n : ℕ) → readFile s room ≡ got f n → Holds room f
+read-holds s room f n e =
+    let known = read-known s room f n e in
+    record { nexts = known .nexts-fit; gates = known .gates-fit; sizes = known .sizes-fit; roots = known .roots-fit }
+
+-- so can an ordered circuit that is lent with five counts
+pub given-sound : (w : Words) → Given w → length (w .counts) ≡ 5 → Sound (fileIn w)
+given-sound w g five = record { wellOrdered = g .ordered; five = five; sizes = g .sizes; sets = g .sets }
+
+-- a file that can be written passes the checks as it is lent, and its bytes are written where they fit
+pub sound-fits : (f : File) → Sound f → checked (wordsOf (f .ordered) (f .sizes)) 0 ≡ Fits
+sound-fits f k = always-fits (f .ordered) (f .sizes) (k .wellOrdered) (k .sets) (k .sizes) 0 (omega arith)
+
+lent-back : (f : File) → fileIn (wordsOf (f .ordered) (f .sizes)) ≡ f
+lent-back f = ap with-gates (pairs-of-words (f .ordered .gates))
+  where
+    with-gates : List Pair → File
+    with-gates gs =
+        record {
+          ordered = record { inputs = f .ordered .inputs; nexts = f .ordered .nexts; gates = gs; counts = f .ordered .counts; roots = f .ordered .roots };
+          sizes = f .sizes;
+        }
+
+pub sound-written : (f : File) → Sound f → (out : List ℕ) → writing (wordsOf (f .ordered) (f .sizes)) out ≡ writtenTo (fileOf f) out
+unfolding writing
+sound-written f k out =
+    ap (λ (c : Checked). writtenAs c (fileOf (fileIn (wordsOf (f .ordered) (f .sizes)))) out) (sound-fits f k)
+    ∙ ap (λ (g : File). writtenTo (fileOf g) out) (lent-back f)
+
+-- what writing answers, and the bytes that it leaves
+
+module _ (w : Words) (out bytes : List ℕ) where
+  -- bytes that are written are read as the circuit that was lent
+  pub written-is-read : (n : ℕ) → writing w out ≡ wrote (Written n) bytes → length (w .counts) ≡ 5 → (room : Room) → Holds room (fileIn w)
+      → readFile bytes room ≡ got (fileIn w) n
+  unfolding writing
+  written-is-read n e five room fits = go (checked w 0) refl e
+    where
+      to : (b : Bool) → ltb (length out) (length (fileOf (fileIn w))) ≡ b → Given w
+          → cond b (wrote (Unwritten Short (length (fileOf (fileIn w)))) out) (wrote (Written (length (fileOf (fileIn w)))) (onto (fileOf (fileIn w)) out))
+          ≡ wrote (Written n) bytes
+          → readFile bytes room ≡ got (fileIn w) n
+      to true f k g =
+          let answer : Unwritten Short (length (fileOf (fileIn w))) ≡ Written n = ap (λ (x : Writing). x .answer) g in
+          absurd (let z : _≡_ {A = ℕ} 0 1 = cc in omega arith)
+      to false f k g =
+          let answer : Written (length (fileOf (fileIn w))) ≡ Written n = ap (λ (x : Writing). x .answer) g in
+          let used : length (fileOf (fileIn w)) ≡ n = cc in
+          let after : List ℕ = drop (length (fileOf (fileIn w))) out in
+          let whole : take (length out) (fileOf (fileIn w)) ≡ fileOf (fileIn w) =
+          take-all (length out) (fileOf (fileIn w)) (ltb-false (length out) (length (fileOf (fileIn w))) f) in
+          let left : bytes ≡ fileOf (fileIn w) ++ after = sym (ap (λ (x : Writing). x .bytes) g) ∙ ap (λ (l : List ℕ). l ++ after) whole in
+          ap (λ (l : List ℕ). readFile l room) left ∙ reads-back (fileIn w) (given-sound w k five) room fits after ∙ ap (got (fileIn w)) used
+
+      go : (c : Checked) → checked w 0 ≡ c → writtenAs c (fileOf (fileIn w)) out ≡ wrote (Written n) bytes → readFile bytes room ≡ got (fileIn w) n
+      go Fits f g = let k = fits-exactly w 0 .0 f in to (ltb (length out) (length (fileOf (fileIn w)))) refl (k .0) g
+      go (Faulty why) f g =
+          let answer : Unwritten why 0 ≡ Written n = ap (λ (x : Writing). x .answer) g in
+          absurd (let z : _≡_ {A = ℕ} 0 1 = cc in omega arith)
+
+  -- a refusal leaves them as they were
+  pub refusals-keep : (why : Fault) (needed : ℕ) → writing w out ≡ wrote (Unwritten why needed) bytes → bytes ≡ out
+  unfolding writing
+  refusals-keep why needed e = go (checked w 0) e
+    where
+      to : (b : Bool)
+          → cond b (wrote (Unwritten Short (length (fileOf (fileIn w)))) out) (wrote (Written (length (fileOf (fileIn w)))) (onto (fileOf (fileIn w)) out))
+          ≡ wrote (Unwritten why needed) bytes
+          → bytes ≡ out
+      to true g = sym (ap (λ (x : Writing). x .bytes) g)
+      to false g =
+          let answer : Written (length (fileOf (fileIn w))) ≡ Unwritten why needed = ap (λ (x : Writing). x .answer) g in
+          absurd (let z : _≡_ {A = ℕ} 0 1 = cc in omega arith)
+
+      go : (c : Checked) → writtenAs c (fileOf (fileIn w)) out ≡ wrote (Unwritten why needed) bytes → bytes ≡ out
+      go Fits g = to (ltb (length out) (length (fileOf (fileIn w)))) g
+      go (Faulty because) g = sym (ap (λ (x : Writing). x .bytes) g)

@@ -1,0 +1,335 @@
+-- What the checks say, both ways: each test has a view that says what its answer means, so that an answer is given exactly where what it says is true.
+-- Assumes nothing.
+use Prim.Native.Nat.{ℕ, zero, suc, _+_, _*_, _/_, _%_, _<_, _≤_}
+use mathlib.Core.Path.{_≡_, refl, ap, _∙_, subst, subst⁻¹}
+use mathlib.Core.Logic.{_⊎_, inl, inr, _↔_}
+use mathlib.Core.Bool.{Bool, true, false, cond, not, _||_}
+use mathlib.Core.Option.{Option, none, some}
+use mathlib.Core.List.{List, [], _∷_, _++_}
+use native.Mathlib.Omega.{arith}
+use lib.Dec.{eqb, leb, ltb}
+use lib.ListN.{length, getD}
+use borrow.Author.Tests.{le-leb, lt-leb}
+use Rattle.circuit.specs.Graph.{In}
+use Rattle.circuit.specs.Walk.{Pair, firstCode}
+use Rattle.circuit.specs.Circuit.{firstOver}
+use Rattle.circuit.specs.Ordered.{Ordered, sourcesOf, noPair}
+use Rattle.circuit.specs.Outcome.{limit, total, pairsOf, pairWords}
+use Rattle.circuit.specs.Claims.{AllWithin, FirstOver}
+use Rattle.circuit.proofs.Tests.{Same, same, other, sameTest, AtMost, atMost, above, leTest, lt-or}
+use Rattle.circuit.proofs.Checks as checks
+use Rattle.circuit.proofs.Checks.{noneOver, oneOver, overTest}
+use Rattle.circuit.proofs.Listed.{within-left, within-right, within-join}
+use Rattle.ordered.specs.declared.given.Fault.the-variants.{TooBig, Misshapen, Over, Disordered, Short}
+use Rattle.ordered.specs.declared.given.Checked.{Checked}
+use Rattle.ordered.specs.declared.given.Checked.the-variants.{Fits, Faulty}
+use Rattle.ordered.specs.WellOrdered.{variablesOf, WellOrdered}
+use Rattle.ordered.specs.Check.{Words, circuitIn, wordsOf, tooLarge, uneven, codesOf, breaksOrder, firstDisordered, faultAt, checked}
+use Rattle.ordered.specs.Given.{Given, limited, Even, GateInOrder, FirstLoose, Says}
+use Rattle.ordered.proofs.Laid.{pairs-length, words-length, pairs-of-words}
+
+-- check 1
+
+pub data Large (w : Words) : Bool → Type 0 where
+  isLarge : (n : ℕ) → In n (limited w) → limit < n → Large w true
+  isSmall : AllWithin limit (limited w) → Large w false
+
+in-limits : (w : Words) → variablesOf (circuitIn w) ≤ limit → length (w .roots) ≤ limit → length (w .sizes) ≤ limit → AllWithin limit (limited w)
+in-limits w v r j n (inl e) = omega arith
+in-limits w v r j n (inr (inl e)) = omega arith
+in-limits w v r j n (inr (inr (inl e))) = omega (arith, pairs-length (w .gates))
+in-limits w v r j n (inr (inr (inr (inl e)))) = omega arith
+in-limits w v r j n (inr (inr (inr (inr (inl e))))) = omega (arith, pairs-length (w .gates))
+in-limits w v r j n (inr (inr (inr (inr (inr (inl e)))))) = omega arith
+in-limits w v r j n (inr (inr (inr (inr (inr (inr h)))))) = absurd h
+
+pub largeTest : (w : Words) → Large w (tooLarge (variablesOf (circuitIn w)) (length (w .roots)) (length (w .sizes)))
+unfolding tooLarge
+largeTest w =
+    go (ltb limit (variablesOf (circuitIn w))) (leTest (suc limit) (variablesOf (circuitIn w))) (ltb limit (length (w .roots)))
+    (leTest (suc limit) (length (w .roots))) (ltb limit (length (w .sizes))) (leTest (suc limit) (length (w .sizes)))
+  where
+    go : (a : Bool) → AtMost (suc limit) (variablesOf (circuitIn w)) a → (b : Bool) → AtMost (suc limit) (length (w .roots)) b
+        → (d : Bool) → AtMost (suc limit) (length (w .sizes)) d → Large w (a || b || d)
+    go true (atMost h) b q d r =
+        isLarge (w .inputs + length (w .nexts) + length (w .gates) / 2) (inr (inr (inr (inr (inl refl))))) (omega (arith, pairs-length (w .gates)))
+    go false p true (atMost h) d r = isLarge (length (w .roots)) (inr (inr (inr (inl refl)))) (omega arith)
+    go false p false q true (atMost h) = isLarge (length (w .sizes)) (inr (inr (inr (inr (inr (inl refl)))))) (omega arith)
+    go false (above p) false (above q) false (above r) = isSmall (in-limits w (omega arith) (omega arith) (omega arith))
+
+is-large : (w : Words) (n : ℕ) → In n (limited w) → limit < n → tooLarge (variablesOf (circuitIn w)) (length (w .roots)) (length (w .sizes)) ≡ true
+is-large w n i h = go (tooLarge (variablesOf (circuitIn w)) (length (w .roots)) (length (w .sizes))) (largeTest w)
+  where
+    go : (b : Bool) → Large w b → b ≡ true
+    go b (isLarge m k g) = refl
+    go b (isSmall f) = absurd (omega (arith, f n i))
+
+is-small : (w : Words) → AllWithin limit (limited w) → tooLarge (variablesOf (circuitIn w)) (length (w .roots)) (length (w .sizes)) ≡ false
+is-small w f = go (tooLarge (variablesOf (circuitIn w)) (length (w .roots)) (length (w .sizes))) (largeTest w)
+  where
+    go : (b : Bool) → Large w b → b ≡ false
+    go b (isLarge m k g) = absurd (omega (arith, f m k))
+    go b (isSmall g) = refl
+
+-- check 2
+
+pub data Sums (w : Words) : Bool → Type 0 where
+  unequal : (Even w → ⊥) → Sums w true
+  equal : Even w → Sums w false
+
+pub sumsTest : (w : Words) → Sums w (uneven (w .counts) (length (w .roots)) (w .sizes) (length (w .gates)))
+unfolding uneven
+sumsTest w =
+    go (eqb (total (w .counts)) (length (w .roots))) (sameTest (total (w .counts)) (length (w .roots))) (eqb (total (w .sizes)) (getD (w .counts) 4 0))
+    (sameTest (total (w .sizes)) (getD (w .counts) 4 0)) (eqb (length (w .gates) % 2) 0) (sameTest (length (w .gates) % 2) 0)
+  where
+    go : (a : Bool) → Same (total (w .counts)) (length (w .roots)) a → (b : Bool) → Same (total (w .sizes)) (getD (w .counts) 4 0) b
+        → (d : Bool) → Same (length (w .gates) % 2) 0 d → Sums w (not a || not b || not d)
+    go false (other h) b q d r = unequal (λ k. h (k .roots))
+    go true p false (other h) d r = unequal (λ k. h (k .justice))
+    go true p true q false (other h) = unequal (λ k. h (k .words))
+    go true (same p) true (same q) true (same r) = equal (record { roots = p; justice = q; words = r })
+
+is-uneven : (w : Words) → (Even w → ⊥) → uneven (w .counts) (length (w .roots)) (w .sizes) (length (w .gates)) ≡ true
+is-uneven w f = go (uneven (w .counts) (length (w .roots)) (w .sizes) (length (w .gates))) (sumsTest w)
+  where
+    go : (b : Bool) → Sums w b → b ≡ true
+    go b (unequal g) = refl
+    go b (equal e) = absurd (f e)
+
+is-even : (w : Words) → Even w → uneven (w .counts) (length (w .roots)) (w .sizes) (length (w .gates)) ≡ false
+is-even w e = go (uneven (w .counts) (length (w .roots)) (w .sizes) (length (w .gates))) (sumsTest w)
+  where
+    go : (b : Bool) → Sums w b → b ≡ false
+    go b (unequal f) = absurd (f e)
+    go b (equal g) = refl
+
+-- check 4: the first over the bound, and none
+
+first-over : (b c : ℕ) (before after : List ℕ) → AllWithin b before → b < c → firstOver b (before ++ (c ∷ after)) ≡ some c
+first-over b c [] after w h = rw (lt-leb c b h)
+first-over b c (x ∷ before) after w h = rw (le-leb x b (w x (inl refl))) (first-over b c before after (λ y i. w y (inr i)) h)
+
+is-first-over : (b : ℕ) (cs : List ℕ) (c : ℕ) → FirstOver b cs c → firstOver b cs ≡ some c
+is-first-over b cs c k = ap (firstOver b) (k .splits) ∙ first-over b c (k .before) (k .after) (k .within) (k .isOver)
+
+none-over : (b : ℕ) (cs : List ℕ) → AllWithin b cs → firstOver b cs ≡ none
+none-over b [] w = refl
+none-over b (c ∷ cs) w = rw (le-leb c b (w c (inl refl))) (none-over b cs (λ x i. w x (inr i)))
+
+-- check 23, where the first gate has the code t
+
+abbrev AllInOrder : ℕ → List Pair → Type 0
+AllInOrder t ps = (j : ℕ) → j < length ps → GateInOrder t ps j
+
+pub data Loose (t : ℕ) (ps : List Pair) : Option ℕ → Type 0 where
+  noneLoose : AllInOrder t ps → Loose t ps none
+  oneLoose : (d : ℕ) → FirstLoose t ps d → Loose t ps (some d)
+
+-- one gate
+pub data Breaks (t : ℕ) (p : Pair) : Bool → Type 0 where
+  breaks : ((p .smaller ≤ p .larger) × (p .larger < t + 2 * 0) → ⊥) → Breaks t p true
+  keeps : (p .smaller ≤ p .larger) × (p .larger < t + 2 * 0) → Breaks t p false
+
+breaksTest : (t : ℕ) (p : Pair) → Breaks t p (breaksOrder t p)
+breaksTest t p = go (leb t (p .larger)) (leTest t (p .larger)) (ltb (p .larger) (p .smaller)) (leTest (suc (p .larger)) (p .smaller))
+  where
+    go : (a : Bool) → AtMost t (p .larger) a → (b : Bool) → AtMost (suc (p .larger)) (p .smaller) b → Breaks t p (a || b)
+    go true (atMost h) b q = breaks (λ k. omega (arith, k .1))
+    go false r true (atMost h) = breaks (λ k. omega (arith, k .0))
+    go false (above h) false (above g) = keeps (omega arith, omega arith)
+
+-- a gate of the list is one of what is left, whose first has the code t + 2
+later : (t : ℕ) (p : Pair) (ps : List Pair) (j : ℕ) → GateInOrder (t + 2) ps j → GateInOrder t (p ∷ ps) (suc j)
+later t p ps j k = (k .0, omega (arith, k .1))
+
+earlier : (t : ℕ) (p : Pair) (ps : List Pair) (j : ℕ) → GateInOrder t (p ∷ ps) (suc j) → GateInOrder (t + 2) ps j
+earlier t p ps j k = (k .0, omega (arith, k .1))
+
+pub looseTest : (t : ℕ) (ps : List Pair) → Loose t ps (firstDisordered t ps)
+looseTest t [] = noneLoose (λ j h. absurd (omega arith))
+looseTest t (p ∷ ps) = go (breaksOrder t p) (breaksTest t p) (firstDisordered (t + 2) ps) (looseTest (t + 2) ps)
+  where
+    upto : (n : ℕ) → GateInOrder t (p ∷ ps) 0 → ((j : ℕ) → j < n → GateInOrder (t + 2) ps j) → (j : ℕ) → j < suc n → GateInOrder t (p ∷ ps) j
+    upto n k f zero h = k
+    upto n k f (suc j) h = later t p ps j (f j (omega arith))
+
+    go : (b : Bool) → Breaks t p b → (o : Option ℕ) → Loose (t + 2) ps o → Loose t (p ∷ ps) (cond b (some t) o)
+    go true (breaks h) o v =
+        oneLoose t (record { place = 0; inside = omega arith; code = omega arith; isLoose = h; before = λ j i. absurd (omega arith) })
+    go false (keeps h) o (noneLoose f) = noneLoose (upto (length ps) h f)
+    go false (keeps h) o (oneLoose d k) =
+        oneLoose d
+        (record {
+          place = suc (k .place);
+          inside = omega (arith, k .inside);
+          code = omega (arith, k .code);
+          isLoose = λ i. k .isLoose (earlier t p ps (k .place) i);
+          before = upto (k .place) h (k .before);
+        })
+
+none-loose : (t : ℕ) (ps : List Pair) → AllInOrder t ps → firstDisordered t ps ≡ none
+none-loose t ps f = go (firstDisordered t ps) (looseTest t ps)
+  where
+    go : (o : Option ℕ) → Loose t ps o → o ≡ none
+    go o (noneLoose g) = refl
+    go o (oneLoose d k) = absurd (k .isLoose (f (k .place) (k .inside)))
+
+is-first-loose : (t : ℕ) (ps : List Pair) (d : ℕ) → FirstLoose t ps d → firstDisordered t ps ≡ some d
+is-first-loose t ps d k = go (firstDisordered t ps) (looseTest t ps)
+  where
+    same-place : (i j : ℕ) → ((i < j) → ⊥) → ((j < i) → ⊥) → i ≡ j
+    same-place i j f g = cases (lt-or i j) (lt-or j i)
+      where
+        cases : (i < j) ⊎ (j ≤ i) → (j < i) ⊎ (i ≤ j) → i ≡ j
+        cases (inl h) r = absurd (f h)
+        cases (inr h) (inl r) = absurd (g r)
+        cases (inr h) (inr r) = omega arith
+
+    go : (o : Option ℕ) → Loose t ps o → o ≡ some d
+    go o (noneLoose f) = absurd (k .isLoose (f (k .place) (k .inside)))
+    go o (oneLoose d′ k′) =
+        let e = same-place (k′ .place) (k .place) (λ h. k′ .isLoose (k .before (k′ .place) h)) (λ h. k .isLoose (k′ .before (k .place) h)) in
+        ap some (omega (arith, k .code, k′ .code))
+
+-- words that are two a gate
+words-within : (b : ℕ) (ws : List ℕ) → length ws % 2 ≡ 0
+    → ((j : ℕ) → j < length (pairsOf ws) → (getD (pairsOf ws) j noPair .larger ≤ b) × (getD (pairsOf ws) j noPair .smaller ≤ b)) → AllWithin b ws
+words-within b [] e f c i = absurd i
+words-within b (x ∷ []) e f c i = absurd (omega arith)
+words-within b (x ∷ y ∷ ws) e f c (inl i) = omega (arith, f 0 (omega arith) .0)
+words-within b (x ∷ y ∷ ws) e f c (inr (inl i)) = omega (arith, f 0 (omega arith) .1)
+words-within b (x ∷ y ∷ ws) e f c (inr (inr i)) = words-within b ws (omega arith) (λ j h. f (suc j) (omega arith)) c i
+
+pub words-back : (ws : List ℕ) → length ws % 2 ≡ 0 → pairWords (pairsOf ws) ≡ ws
+words-back [] e = refl
+words-back (x ∷ []) e = absurd (omega arith)
+words-back (x ∷ y ∷ ws) e = ap {B = List ℕ} (λ l. x ∷ y ∷ l) (words-back ws (omega arith))
+
+module _ (w : Words) (asked : ℕ) where
+  abbrev bound : ℕ
+  bound = 2 * variablesOf (circuitIn w) + 1
+
+  abbrev all : List ℕ
+  all = codesOf (w .gates) (w .nexts) (w .roots) asked
+
+  abbrev first : ℕ
+  first = firstCode (sourcesOf (circuitIn w))
+
+  -- what is left where each check is passed
+  collected : AllWithin limit (limited w) → Even w → AllWithin bound all → AllInOrder first (circuitIn w .gates) → Given w × (asked ≤ bound)
+  collected small even within ordered =
+      let past-gates : AllWithin bound (w .nexts ++ (w .roots ++ (asked ∷ []))) = within-right bound (w .gates) _ within in
+      let past-nexts : AllWithin bound (w .roots ++ (asked ∷ [])) = within-right bound (w .nexts) _ past-gates in (
+        record {
+          ordered =
+              record {
+                variables = omega (arith, small _ (inr (inr (inr (inr (inl refl))))), pairs-length (w .gates));
+                few = small _ (inr (inr (inr (inl refl))));
+                counts = even .roots;
+                nexts = within-left bound (w .nexts) _ past-gates;
+                roots = within-left bound (w .roots) _ past-nexts;
+                gates = ordered;
+              };
+          sets = small _ (inr (inr (inr (inr (inr (inl refl))))));
+          sizes = even .justice;
+          whole = even .words;
+        },
+        within-right bound (w .roots) (asked ∷ []) past-nexts asked (inl refl),
+      )
+
+  -- each answer is true
+  pub says : Says w asked (checked w asked)
+  unfolding checked
+  says = one (tooLarge (variablesOf (circuitIn w)) (length (w .roots)) (length (w .sizes))) (largeTest w)
+    where
+      last : AllWithin limit (limited w) → Even w → AllWithin bound all → (o : Option ℕ) → Loose first (circuitIn w .gates) o
+          → Says w asked (faultAt o Disordered Fits)
+      last small even within o (noneLoose f) = collected small even within f
+      last small even within o (oneLoose d k) = (small, even, within, k)
+
+      four : AllWithin limit (limited w) → Even w → (o : Option ℕ) → checks.Over bound all o
+          → Says w asked (faultAt o Over (faultAt (firstDisordered first (circuitIn w .gates)) Disordered Fits))
+      four small even o (noneOver f) = last small even f (firstDisordered first (circuitIn w .gates)) (looseTest first (circuitIn w .gates))
+      four small even o (oneOver c k) = (small, even, k)
+
+      two : AllWithin limit (limited w) → (b : Bool) → Sums w b
+          → Says w asked
+          (cond b (Faulty Misshapen) (faultAt (firstOver bound all) Over (faultAt (firstDisordered first (circuitIn w .gates)) Disordered Fits)))
+      two small b (unequal f) = (small, f)
+      two small b (equal e) = four small e (firstOver bound all) (overTest bound all)
+
+      one : (b : Bool) → Large w b
+          → Says w asked
+          (cond b (Faulty TooBig)
+          (cond (uneven (w .counts) (length (w .roots)) (w .sizes) (length (w .gates))) (Faulty Misshapen)
+          (faultAt (firstOver bound all) Over (faultAt (firstDisordered first (circuitIn w .gates)) Disordered Fits))))
+      one b (isLarge n i h) = (n, i, h)
+      one b (isSmall f) = two f (uneven (w .counts) (length (w .roots)) (w .sizes) (length (w .gates))) (sumsTest w)
+
+  -- where an ordered circuit is lent no code is over the bound
+  pub given-within : Given w → asked ≤ bound → AllWithin bound all
+  unfolding firstCode
+  given-within k h =
+      let o = k .ordered in
+      within-join bound (w .gates) _
+      (words-within bound (w .gates) (k .whole) (λ j i. let g = o .gates j i in (omega (arith, g .1), omega (arith, g .0, g .1))))
+      (within-join bound (w .nexts) _ (o .nexts) (within-join bound (w .roots) (asked ∷ []) (o .roots) only))
+    where
+      only : AllWithin bound (asked ∷ [])
+      only c (inl e) = omega arith
+      only c (inr i) = absurd i
+
+  -- and what is true is answered
+  pub answered : (a : Checked) → Says w asked a → checked w asked ≡ a
+  unfolding checked
+  answered Fits k =
+      let o = k .0 .ordered in
+      rw (
+        is-small w (in-limits w (o .variables) (o .few) (k .0 .sets)),
+        is-even w (record { roots = o .counts; justice = k .0 .sizes; words = k .0 .whole }),
+        none-over bound all (given-within (k .0) (k .1)),
+        none-loose first (circuitIn w .gates) (o .gates),
+      )
+  answered (Faulty TooBig) k = rw (is-large w (k .0) (k .1) (k .2))
+  answered (Faulty Misshapen) k = rw (is-small w (k .0), is-uneven w (k .1))
+  answered (Faulty (Over d)) k = rw (is-small w (k .0), is-even w (k .1), is-first-over bound all (d .0) (k .2))
+  answered (Faulty (Disordered d)) k =
+      rw (
+        is-small w (k .0),
+        is-even w (k .1),
+        none-over bound all (k .2),
+        is-first-loose first (circuitIn w .gates) (d .0) (k .3),
+      )
+  answered (Faulty Short) k = absurd k
+
+  -- an answer is given exactly where what it says is true
+  pub exactly : (a : Checked) → (checked w asked ≡ a) ↔ Says w asked a
+  exactly a = (λ e. subst (Says w asked) e says, answered a)
+
+-- the words of an ordered circuit
+circuit-back : (O : Ordered) (sizes : List ℕ) → circuitIn (wordsOf O sizes) ≡ O
+circuit-back O sizes =
+    ap (λ (gs : List Pair). record { inputs = O .inputs; nexts = O .nexts; gates = gs; counts = O .counts; roots = O .roots }) (pairs-of-words (O .gates))
+
+pub given-ordered : (O : Ordered) (sizes : List ℕ) → WellOrdered O → length sizes ≤ limit → total sizes ≡ getD (O .counts) 4 0 → Given (wordsOf O sizes)
+given-ordered O sizes k few e =
+    record {
+      ordered = subst⁻¹ WellOrdered (circuit-back O sizes) k;
+      sets = few;
+      sizes = e;
+      whole = omega (arith, words-length (O .gates));
+    }
+
+pub always-fits : (O : Ordered) (sizes : List ℕ) → WellOrdered O → length sizes ≤ limit → total sizes ≡ getD (O .counts) 4 0
+    → (asked : ℕ) → asked ≤ 2 * variablesOf O + 1 → checked (wordsOf O sizes) asked ≡ Fits
+always-fits O sizes k few e asked h =
+    answered (wordsOf O sizes) asked Fits
+    (given-ordered O sizes k few e, subst⁻¹ (λ (P : Ordered). asked ≤ 2 * variablesOf P + 1) (circuit-back O sizes) h)
+
+-- what is lent is the circuit's own words
+pub given-words : (w : Words) → Given w → wordsOf (circuitIn w) (w .sizes) ≡ w
+given-words w k =
+    ap
+    (λ (gs : List ℕ). record { inputs = w .inputs; counts = w .counts; nexts = w .nexts; gates = gs; sizes = w .sizes; roots = w .roots })
+    (words-back (w .gates) (k .whole))

@@ -1,0 +1,194 @@
+// Whether what is lent is an ordered circuit. Each function that is given one asks this first.
+ghost use mathlib.Core.Path.{_≡_};
+ghost use Prim.Native.Nat.{_+_, _≤_};
+ghost use lib.ListN.{length};
+ghost use Rattle.circuit.specs.Circuit.{firstOver};
+ghost use Rattle.circuit.specs.Outcome.{limit, total, pairsOf};
+ghost use Rattle.checks.specs.Checks.{found};
+ghost use Rattle.ordered.specs.Check.{faultNumber, faultLiteral, tooLarge, uneven, codesOf, breaksOrder, firstDisordered, checked};
+use checks::Found;
+use checks::over_in;
+use checks::sum;
+use circuit::LIMIT;
+use lent::words::counted;
+use lent::words::wide;
+use lit::Lit;
+
+// An ordered circuit but for its lists: the number of inputs, and how many outputs, bad states, constraints, fairness and justice literals it has.
+pub struct Shape {
+    pub inputs: u32,
+    pub counts: [u32; 5],
+}
+
+// Why an ordered circuit is refused; the literal is the one at fault. Short is a caller's answer, for a list of its own that is too short.
+pub enum Fault {
+    TooBig,
+    Misshapen,
+    Over(Lit),
+    Disordered(Lit),
+    Short,
+}
+
+pub enum Checked {
+    Fits,
+    Faulty(Fault),
+}
+
+// The fault's number.
+pub fn fault_number(why: Fault) -> u32
+    ensures { λ r. ⌜ r ≡ faultNumber why ⌝ }
+{
+    match why {
+        Fault::TooBig => 1,
+        Fault::Misshapen => 2,
+        Fault::Over(_) => 4,
+        Fault::Disordered(_) => 23,
+        Fault::Short => 3,
+    }
+}
+
+// The code that the fault names; 0 where it names none.
+pub fn fault_literal(why: Fault) -> u32
+    ensures { λ r. ⌜ r ≡ faultLiteral why ⌝ }
+{
+    match why {
+        Fault::TooBig => 0,
+        Fault::Misshapen => 0,
+        Fault::Over(l) => l.code(),
+        Fault::Disordered(l) => l.code(),
+        Fault::Short => 0,
+    }
+}
+
+// Check 1.
+fn is_too_large(variables: usize, roots: usize, sets: usize) -> bool
+    ensures { λ r. ⌜ r ≡ tooLarge variables roots sets ⌝ }
+{
+    if LIMIT < variables {
+        return true;
+    }
+    if LIMIT < roots {
+        return true;
+    }
+    LIMIT < sets
+}
+
+// The sum of the sizes, so few that it fits.
+fn sum_of(sizes: &[u32]) -> usize
+    requires { ⌜ length (now sizes) ≤ limit ⌝ }
+    ensures { λ r. ⌜ r ≡ total (now (sizes .entry)) ⌝ }
+{
+    let mut sum: usize = 0;
+    let mut i: usize = 0;
+    while i < sizes.len() {
+        sum += counted(sizes[i]);
+        i += 1;
+    }
+    sum
+}
+
+// Check 2, where check 1 has passed.
+fn is_uneven(counts: [u32; 5], roots: usize, sizes: &[u32], words: usize) -> bool
+    requires { ⌜ length (now sizes) ≤ limit ⌝ }
+    ensures { λ r. ⌜ r ≡ uneven counts roots (now (sizes .entry)) words ⌝ }
+{
+    if sum(counts) != roots {
+        return true;
+    }
+    if sum_of(sizes) != wide(counts[4]) {
+        return true;
+    }
+    words % 2 != 0
+}
+
+// Check 4.
+fn over(bound: usize, gates: &[u32], nexts: &[u32], roots: &[u32], asked: Lit) -> Found
+    ensures { λ r. ⌜ r ≡ found (firstOver bound (codesOf (now (gates .entry)) (now (nexts .entry)) (now (roots .entry)) (asked .0))) ⌝ }
+{
+    let first = over_in(gates, bound);
+    if let Found::Literal(_) = first {
+        return first;
+    }
+    let first = over_in(nexts, bound);
+    if let Found::Literal(_) = first {
+        return first;
+    }
+    let first = over_in(roots, bound);
+    if let Found::Literal(_) = first {
+        return first;
+    }
+    if bound < wide(asked.code()) {
+        return Found::Literal(asked);
+    }
+    Found::Nothing
+}
+
+// Check 23 of one gate.
+fn breaks_order(code: usize, first: u32, second: u32) -> bool
+    ensures { λ r. ⌜ r ≡ breaksOrder code (record { larger = first; smaller = second }) ⌝ }
+{
+    if code <= wide(first) {
+        return true;
+    }
+    first < second
+}
+
+// Check 23, the first gate having the code t.
+fn first_disordered(t: usize, gates: &[u32]) -> Found
+    requires { ⌜ t + length (now gates) ≤ 4294967295 ⌝ }
+    ensures { λ r. ⌜ r ≡ found (firstDisordered t (pairsOf (now (gates .entry)))) ⌝ }
+{
+    let g = gates.len() / 2;
+    let mut j: usize = 0;
+    while j < g {
+        let code = t + 2 * j;
+        if breaks_order(code, gates[2 * j], gates[2 * j + 1]) {
+            return Found::Literal(Lit::from_code(code as u32));
+        }
+        j += 1;
+    }
+    Found::Nothing
+}
+
+// Whether an ordered circuit is lent, and the code that is asked is one of its codes; 0 where none is asked. 1 for I, L, G, R, V = I + L + G or the number
+// of justice sets over the limit; 2 for counts that do not sum to the roots, sizes that do not sum to the fifth count or an odd number of gate words; 4 for
+// the first code over 2V + 1: gate by gate, next states, roots, the code asked; 23 for the first gate whose code is not above its first input, or whose first
+// input is below its second. In this order.
+pub fn check(
+    o: Shape,
+    nexts: &[u32],
+    gates: &[u32],
+    sizes: &[u32],
+    roots: &[u32],
+    asked: Lit,
+) -> Checked
+    ensures { λ r. ⌜ r ≡ checked (record {
+      inputs = o .inputs;
+      counts = o .counts;
+      nexts = now (nexts .entry);
+      gates = now (gates .entry);
+      sizes = now (sizes .entry);
+      roots = now (roots .entry);
+    }) (asked .0) ⌝ }
+{
+    let sources = wide(o.inputs) + nexts.len();
+    let variables = sources + gates.len() / 2;
+    if is_too_large(variables, roots.len(), sizes.len()) {
+        return Checked::Faulty(Fault::TooBig);
+    }
+    let counts = o.counts;
+    if is_uneven(counts, roots.len(), sizes, gates.len()) {
+        return Checked::Faulty(Fault::Misshapen);
+    }
+    let large = over(2 * variables + 1, gates, nexts, roots, asked);
+    match large {
+        Found::Literal(lit) => Checked::Faulty(Fault::Over(lit)),
+        Found::Nothing => {
+            let loose = first_disordered(2 * (sources + 1), gates);
+            match loose {
+                Found::Literal(lit) => Checked::Faulty(Fault::Disordered(lit)),
+                Found::Nothing => Checked::Fits,
+            }
+        }
+    }
+}

@@ -1,0 +1,5 @@
+pub mod Parts
+pub mod Spelled
+pub mod Ours
+pub mod Pins
+pub mod Theorems

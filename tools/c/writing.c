@@ -1,0 +1,292 @@
+/* Has imdagluz_write_aig write and refuse circuits as the header says: each refusal alone and each two together, the empty circuit, every pattern of optional
+ * counts, deltas about the borders of their lengths, a circuit of the limits, and 20,000 random ones. What is written is compared with an independent
+ * spelling and read back with imdagluz_read_aig; with no byte and with a byte too few it is measured. Bytes and words past those lent, and those lent past what
+ * is written, are compared too. Exit status: 0 when all are as promised and the line that says so was written, else 1. */
+#include "imdagluz.h"
+#include <inttypes.h>
+#include <stdio.h>
+#include <string.h>
+
+enum { LIST = IMDAGLUZ_LIST, PAST = 16, HELD = 165, LENT = 3, WORDS = 2, MOST = 76 + 24 * LIST };
+
+struct list { uint32_t *words; size_t length; };
+struct circuit { uint32_t inputs; struct list counts, nexts, gates, sizes, roots; };
+
+static uint32_t counts[8], nexts[LIST + 1], gates[2 * LIST + 2], sizes[LIST + 1], roots[LIST + 1];
+static uint32_t nexts_back[LIST], gates_back[2 * LIST], sizes_back[LIST], roots_back[LIST];
+static uint8_t out[MOST + 2 * PAST], spelt[MOST];
+static uint64_t answer[LENT + PAST];
+static struct circuit given;
+static int cases, good = 1;
+
+static void failed(const char *what) {
+    printf("%s: not as promised\n", what);
+    good = 0;
+}
+
+/* Calls with so many bytes and answer words; everything past them holds a known number. */
+static uint32_t call(size_t bytes, size_t words) {
+    memset(out, HELD, bytes + PAST);
+    for (int i = 0; i < LENT + PAST; i++) answer[i] = HELD;
+    return imdagluz_write_aig(given.inputs, given.counts.words, given.counts.length, given.nexts.words, given.nexts.length, given.gates.words,
+                              given.gates.length, given.sizes.words, given.sizes.length, given.roots.words, given.roots.length, out, bytes, answer, words);
+}
+
+/* Whether the bytes from n to the end of the room past those lent are as they were, and the answer words from n on. */
+static int bytes_kept(size_t n, size_t lent) {
+    for (size_t i = n; i < lent + PAST; i++)
+        if (out[i] != HELD) return 0;
+    return 1;
+}
+
+static int words_kept(size_t n) {
+    for (size_t i = n; i < LENT + PAST; i++)
+        if (answer[i] != HELD) return 0;
+    return 1;
+}
+
+/* A refusal with so many bytes lent: its number, the literal at fault, the bytes needed, and nothing else. */
+static void refuses(const char *what, size_t bytes, uint32_t number, uint64_t literal, uint64_t needed) {
+    if (call(bytes, LENT) != number || answer[0] != literal || answer[1] != needed || !bytes_kept(0, bytes) || !words_kept(WORDS)) failed(what);
+    cases++;
+}
+
+/* The independent spelling of the circuit. */
+static size_t put_line(size_t at, uint32_t v) { return at + (size_t)sprintf((char *)spelt + at, "%" PRIu32 "\n", v); }
+
+static size_t put_delta(size_t at, uint32_t d) {
+    while (d > 127) spelt[at++] = (uint8_t)(d | 128), d >>= 7;
+    spelt[at++] = (uint8_t)d;
+    return at;
+}
+
+static size_t spell(void) {
+    const uint32_t *c = given.counts.words, n = given.inputs + (uint32_t)given.nexts.length, g = (uint32_t)given.gates.length / 2;
+    uint32_t optional[4] = {c[1], c[2], (uint32_t)given.sizes.length, c[3]};
+    int kept = 4;
+    while (kept > 0 && optional[kept - 1] == 0) kept--;
+    size_t at = (size_t)sprintf((char *)spelt, "aig %" PRIu32 " %" PRIu32 " %zu %" PRIu32 " %" PRIu32, n + g, given.inputs, given.nexts.length, c[0], g);
+    for (int i = 0; i < kept; i++) at += (size_t)sprintf((char *)spelt + at, " %" PRIu32, optional[i]);
+    spelt[at++] = '\n';
+    for (size_t i = 0; i < given.nexts.length; i++) at = put_line(at, given.nexts.words[i]);
+    size_t fair = (size_t)c[0] + c[1] + c[2], justice = fair + c[3];
+    for (size_t i = 0; i < fair; i++) at = put_line(at, given.roots.words[i]);
+    for (size_t i = 0; i < given.sizes.length; i++) at = put_line(at, given.sizes.words[i]);
+    for (size_t i = justice; i < justice + c[4]; i++) at = put_line(at, given.roots.words[i]);
+    for (size_t i = fair; i < justice; i++) at = put_line(at, given.roots.words[i]);
+    for (uint32_t k = 0; k < g; k++) {
+        uint32_t larger = given.gates.words[2 * k], smaller = given.gates.words[2 * k + 1];
+        at = put_delta(put_delta(at, 2 * (n + 1 + k) - larger), larger - smaller);
+    }
+    return at;
+}
+
+static int same_list(struct list list, const uint32_t *words, uint64_t length) {
+    return list.length == length && memcmp(list.words, words, length * sizeof *words) == 0;
+}
+
+/* Whether the first bytes of out are read as the circuit, to the last of them. */
+static int reads_back(size_t length) {
+    uint64_t read[11];
+    uint32_t back[5];
+    if (imdagluz_read_aig(out, length, nexts_back, LIST, gates_back, 2 * LIST, sizes_back, LIST, roots_back, LIST, read, 11) != 0) return 0;
+    for (int i = 0; i < 5; i++) back[i] = (uint32_t)read[5 + i];
+    return read[0] == length && read[2] == given.inputs && same_list(given.nexts, nexts_back, read[3]) && same_list(given.gates, gates_back, 2 * read[4])
+        && same_list(given.counts, back, 5) && same_list(given.sizes, sizes_back, read[10])
+        && same_list(given.roots, roots_back, read[5] + read[6] + read[7] + read[8] + read[9]);
+}
+
+/* A circuit that is written: measured with no byte and with a byte too few, then written into just enough bytes and into more. */
+static void writes(const char *what) {
+    size_t length = spell();
+    refuses(what, 0, IMDAGLUZ_SHORT_BUFFER, 0, length);
+    refuses(what, length - 1, IMDAGLUZ_SHORT_BUFFER, 0, length);
+    for (size_t more = 0; more <= PAST; more += PAST) {
+        if (call(length + more, LENT) != 0 || answer[0] != 0 || answer[1] != length || memcmp(out, spelt, length) != 0 || !bytes_kept(length, length + more)
+            || !words_kept(WORDS) || !reads_back(length)) failed(what);
+        cases++;
+    }
+    if (length > 76 + 8 * ((uint64_t)given.inputs + given.nexts.length + given.gates.length / 2 + given.roots.length + given.sizes.length)) failed(what);
+}
+
+static void set(struct list *list, uint32_t *room, const uint32_t *words, size_t length) {
+    memcpy(room, words, length * sizeof *words);
+    *list = (struct list){room, length};
+}
+
+static void nothing(uint32_t inputs) {
+    static const uint32_t none[5] = {0};
+    given.inputs = inputs;
+    set(&given.counts, counts, none, 5);
+    given.nexts = (struct list){nexts, 0};
+    given.gates = (struct list){gates, 0};
+    given.sizes = (struct list){sizes, 0};
+    given.roots = (struct list){roots, 0};
+}
+
+/* Two inputs, a latch, two gates, a root of each kind and a second justice literal of the one set: 44 bytes. */
+static void small(void) {
+    static const uint32_t c[] = {1, 1, 1, 1, 2}, n[] = {8}, g[] = {6, 2, 8, 3}, z[] = {2}, r[] = {10, 9, 3, 7, 6, 11};
+    given.inputs = 2;
+    set(&given.counts, counts, c, 5);
+    set(&given.nexts, nexts, n, 1);
+    set(&given.gates, gates, g, 4);
+    set(&given.sizes, sizes, z, 1);
+    set(&given.roots, roots, r, 6);
+}
+
+/* What can be wrong with it, in the order of the tests: the refusal's number and its literal. */
+static void counts_four(void) { given.counts.length = 4; }
+static void counts_six(void) { counts[5] = 0, given.counts.length = 6; }
+static void counts_none(void) { given.counts.length = 0; }
+static void inputs_over(void) { given.inputs = LIST + 1; }
+static void inputs_far_over(void) { given.inputs = 4294967295; }
+static void sources_over(void) { given.inputs = LIST - 1; }
+static void nexts_over(void) { given.nexts.length = LIST + 1; }
+static void gates_over(void) { given.gates.length = 2 * LIST + 2; }
+static void roots_over(void) { counts[0] += LIST - 5, given.roots.length = LIST + 1; }
+static void sets_over(void) { given.sizes.length = LIST + 1; }
+static void counts_more(void) { counts[0]++; }
+static void counts_wrap(void) { counts[1] = 4294967295, counts[2] = 3; }
+static void sizes_less(void) { sizes[0] = 1; }
+static void sizes_none(void) { given.sizes.length = 0; }
+static void gates_odd(void) { given.gates.length = 3; }
+static void gate_over(void) { gates[1] = 13; }
+static void next_over(void) { nexts[0] = 4294967295; }
+static void root_over(void) { roots[5] = 12; }
+static void gate_itself(void) { gates[0] = 8; }
+static void gate_negated(void) { gates[2] = 11; }
+static void gate_turned(void) { gates[2] = 3, gates[3] = 8; }
+static const struct wrong { const char *what; void (*apply)(void); uint32_t number, literal; } wrongs[] = {
+    {"four counts", counts_four, 2, 0},
+    {"six counts", counts_six, 2, 0},
+    {"no count", counts_none, 2, 0},
+    {"too many inputs", inputs_over, 1, 0},
+    {"far too many inputs", inputs_far_over, 1, 0},
+    {"too many variables", sources_over, 1, 0},
+    {"too many latches", nexts_over, 1, 0},
+    {"too many gates", gates_over, 1, 0},
+    {"too many roots", roots_over, 1, 0},
+    {"too many justice sets", sets_over, 1, 0},
+    {"counts over the roots", counts_more, 2, 0},
+    {"counts that wrap around", counts_wrap, 2, 0},
+    {"sizes below the count", sizes_less, 2, 0},
+    {"no sizes", sizes_none, 2, 0},
+    {"an odd list of gates", gates_odd, 2, 0},
+    {"a gate's input over", gate_over, 4, 13},
+    {"a next state over", next_over, 4, 4294967295},
+    {"a root over", root_over, 4, 12},
+    {"a gate that is its own input", gate_itself, 23, 8},
+    {"a gate that is its own negated input", gate_negated, 23, 10},
+    {"inputs the wrong way round", gate_turned, 23, 10},
+};
+enum { WRONGS = sizeof wrongs / sizeof wrongs[0], NEEDED = 44 };
+
+/* Each alone and each two together, with bytes enough and a byte too few: whichever is tested first is told. */
+static void refusals(void) {
+    for (int i = 0; i < WRONGS; i++)
+        for (int j = i; j < WRONGS; j++) {
+            char what[100];
+            snprintf(what, sizeof what, "%s, %s", wrongs[i].what, wrongs[j].what);
+            small();
+            if (j != i) wrongs[j].apply();
+            wrongs[i].apply();
+            refuses(what, NEEDED, wrongs[i].number, wrongs[i].literal, 0);
+            refuses(what, NEEDED - 1, wrongs[i].number, wrongs[i].literal, 0);
+            /* one answer word and none come before all else, and nothing is written */
+            for (size_t words = 0; words < WORDS; words++) {
+                if (call(NEEDED, words) != 3 || !bytes_kept(0, NEEDED) || !words_kept(0)) failed(what);
+                cases++;
+            }
+        }
+    small();
+    for (size_t words = 0; words < WORDS; words++) {
+        if (call(NEEDED, words) != 3 || !bytes_kept(0, NEEDED) || !words_kept(0)) failed("too few answer words");
+        cases++;
+    }
+    for (size_t bytes = 0; bytes < NEEDED; bytes++) refuses("bytes too few", bytes, 3, 0, NEEDED);
+    writes("the small circuit");
+}
+
+/* Every pattern of optional counts: bad states, constraints, justice sets, fairness. */
+static void patterns(void) {
+    static const uint32_t r[8] = {1, 2, 3, 4, 5, 0, 2, 4};
+    for (unsigned pattern = 0; pattern < 16; pattern++) {
+        nothing(2);
+        counts[0] = pattern % 3, counts[1] = pattern & 1, counts[2] = pattern >> 1 & 1, counts[3] = pattern >> 3 & 1, counts[4] = pattern & 4 ? 3 : 0;
+        given.sizes.length = pattern & 4 ? 3 : 0;
+        sizes[0] = 1, sizes[1] = 0, sizes[2] = 2;
+        set(&given.roots, roots, r, (size_t)counts[0] + counts[1] + counts[2] + counts[3] + counts[4]);
+        writes("optional counts");
+    }
+}
+
+/* A gate whose first delta, and one whose second delta, is d. */
+static void deltas(void) {
+    static const uint32_t ds[] = {1, 2, 126, 127, 128, 129, 16382, 16383, 16384, 16385, 2097148, 2097149, 2097150};
+    for (size_t i = 0; i < sizeof ds / sizeof ds[0]; i++) {
+        uint32_t d = ds[i], code = d + d % 2;
+        nothing(code / 2 - 1);
+        given.gates.length = 2;
+        gates[0] = code - d, gates[1] = 0;
+        writes("a first delta");
+        code = d + 1 + (d + 1) % 2;
+        if (code > 2 * LIST) continue;
+        nothing(code / 2 - 1);
+        given.gates.length = 2;
+        gates[0] = code - 1, gates[1] = code - 1 - d;
+        writes("a second delta");
+    }
+}
+
+/* Every number as large as it may be: latches, outputs and empty justice sets; then gates, roots and inputs. */
+static void limits(void) {
+    nothing(0);
+    given.nexts.length = given.roots.length = given.sizes.length = counts[0] = LIST;
+    for (size_t i = 0; i < LIST; i++) nexts[i] = roots[i] = 2 * LIST + 1, sizes[i] = 0;
+    writes("a circuit of the limits");
+    nothing(LIST - 1000);
+    given.gates.length = 2000;
+    for (size_t k = 0; k < 1000; k++) gates[2 * k] = (uint32_t)(2 * (given.inputs + k) + 1), gates[2 * k + 1] = (uint32_t)k;
+    writes("gates behind many inputs");
+    nothing(LIST);
+    writes("inputs alone");
+}
+
+static uint32_t below(uint32_t n) {
+    static uint64_t state = 88172645463325252;
+    state ^= state << 13, state ^= state >> 7, state ^= state << 17;
+    return (uint32_t)((state >> 16) % n);
+}
+
+static void random_circuits(void) {
+    for (int n = 0; n < 20000; n++) {
+        static const uint32_t many[] = {1, 3, 70, 300, 9000};
+        nothing(below(many[below(5)]));
+        given.nexts.length = below(4), given.gates.length = 2 * below(9), given.sizes.length = below(4);
+        uint32_t sources = given.inputs + (uint32_t)given.nexts.length, all = 2 * (sources + (uint32_t)given.gates.length / 2) + 2;
+        for (size_t i = 0; i < given.nexts.length; i++) nexts[i] = below(all);
+        for (uint32_t k = 0; k < given.gates.length / 2; k++) gates[2 * k] = below(2 * (sources + 1 + k)), gates[2 * k + 1] = below(gates[2 * k] + 1);
+        for (int i = 0; i < 4; i++) counts[i] = below(3);
+        for (size_t i = 0; i < given.sizes.length; i++) counts[4] += sizes[i] = below(3);
+        for (int i = 0; i < 5; i++) given.roots.length += counts[i];
+        for (size_t i = 0; i < given.roots.length; i++) roots[i] = below(all);
+        writes("a random circuit");
+    }
+}
+
+int main(void) {
+    refusals();
+    nothing(0);
+    writes("the empty circuit");
+    patterns();
+    deltas();
+    limits();
+    random_circuits();
+    if (good) printf("%d calls of writing as promised\n", cases);
+    if (fflush(stdout) != 0 || ferror(stdout)) {
+        fputs("writing: standard output can't be written\n", stderr);
+        return 1;
+    }
+    return good ? 0 : 1;
+}

@@ -1,0 +1,82 @@
+//! Document 02's words for writing a binary file against the crate's `write_ordered_aig`, byte for byte, on ordered circuits and on what is none.
+//!
+//!     writing small | writing random SEED COUNT MAXGATES | writing large
+//!
+//! Prints how many of each answer there were, and for each line of docs/DIFFERENCES.md how many; a difference that is on no line is shrunk and shown, and ends it with 1.
+use judge::{
+    random::Random,
+    write_compare::compare,
+    write_crate, write_kinds, write_shrink,
+    write_words::{Given, Line},
+};
+use std::{collections::BTreeMap, process::exit};
+
+#[derive(Default)]
+struct Tally {
+    circuits: u64,
+    answers: BTreeMap<u32, u64>,
+    lines: BTreeMap<Line, [u64; 2]>,
+}
+
+impl Tally {
+    fn compare(&mut self, given: &Given, room: usize) {
+        let found = compare(given, room).unwrap_or_else(|_| differs(given, room));
+        self.circuits += 1;
+        *self.answers.entry(found.request.map_or_else(|refused| refused.number, |_| 0)).or_default() += 1;
+        if let Some(line) = found.line {
+            let counts = self.lines.entry(line).or_default();
+            counts[0] += 1;
+            counts[1] += (found.crate_writes == Some(true)) as u64;
+        }
+    }
+}
+
+fn differs(given: &Given, room: usize) -> ! {
+    let smallest = write_shrink::smallest(given.clone(), |given| compare(given, room).is_err());
+    println!("DIFFERS {smallest:?}, {room} bytes\n  {}", compare(&smallest, room).err().unwrap());
+    exit(1)
+}
+
+/// As many bytes as the file has, more, or fewer.
+fn room(random: &mut Random, given: &Given) -> usize {
+    let exact = if given.fault().is_some() { random.index(60) } else { given.bytes(given.top()).map_or(0, |bytes| bytes.len()) };
+    match random.below(20) {
+        0 => exact.saturating_sub(1),
+        1 => random.index(exact + 1),
+        _ => exact + random.index(3),
+    }
+}
+
+fn main() {
+    let arguments: Vec<String> = std::env::args().skip(1).collect();
+    let arguments: Vec<&str> = arguments.iter().map(String::as_str).collect();
+    let number = |text: &str| text.parse::<u64>().expect("a number");
+    write_crate::silent();
+    let mut tally = Tally::default();
+    match arguments[..] {
+        ["small"] => write_kinds::small(&mut Random(1), |given| tally.compare(given, usize::MAX)),
+        ["large"] => write_kinds::large(&mut Random(1), |given| tally.compare(given, usize::MAX)),
+        ["random", seed, count, gates] => {
+            let mut random = Random(number(seed));
+            for _ in 0..number(count) {
+                let given = write_kinds::any(&mut random, number(gates));
+                let room = room(&mut random, &given);
+                tally.compare(&given, room);
+            }
+        }
+        _ => {
+            eprintln!("usage: writing small | random SEED COUNT MAXGATES | large");
+            exit(2)
+        }
+    }
+    println!("{}: {} circuits, no difference that is not listed", arguments.join(" "), tally.circuits);
+    for (number, count) in tally.answers {
+        match number {
+            0 => println!("  written, and byte for byte by both: {count}"),
+            _ => println!("  refused {number}: {count}"),
+        }
+    }
+    for (line, [count, written]) in tally.lines {
+        println!("  not alike, {}: {count}, of which the crate writes {written}", line.words());
+    }
+}

@@ -1,0 +1,53 @@
+//! Ordered circuits to be written, each with the answer that document 02's words give, and what the crate writes: the smallest of each line of docs/DIFFERENCES.md too.
+use crate::write_words::Given;
+
+/// A circuit, the bytes lent, the answer (the file's bytes, or the number, the literal and the bytes needed), and the crate's bytes, none where it panics or has no record.
+pub type Case = (Given, usize, Result<&'static [u8], (u32, u64, u64)>, Option<&'static [u8]>);
+
+fn given(inputs: u32, counts: [u32; 5], nexts: &[u32], gates: &[u32], sizes: &[u32], roots: &[u32]) -> Given {
+    Given { inputs, counts: counts.to_vec(), nexts: nexts.to_vec(), gates: gates.to_vec(), sizes: sizes.to_vec(), roots: roots.to_vec() }
+}
+
+pub fn cases() -> Vec<Case> {
+    let good = |given: Given, bytes: &'static [u8]| (given, bytes.len(), Ok(bytes), Some(bytes));
+    let none = [0; 5];
+    let bare = |gates: &[u32]| given(0, none, &[], gates, &[], &[]);
+    vec![
+        good(bare(&[]), b"aig 0 0 0 0 0\n"),
+        (bare(&[]), 13, Err((3, 0, 14)), Some(b"aig 0 0 0 0 0\n")),
+        (bare(&[]), 0, Err((3, 0, 14)), Some(b"aig 0 0 0 0 0\n")),
+        good(bare(&[1, 0]), b"aig 1 0 0 0 1\n\x01\x01"),
+        good(bare(&[1, 1]), b"aig 1 0 0 0 1\n\x01\0"),
+        (bare(&[0, 1]), 99, Err((23, 2, 0)), Some(b"aig 1 0 0 0 1\n\x01\x01")),
+        (bare(&[2, 0]), 99, Err((23, 2, 0)), Some(b"aig 1 0 0 0 1\n\0\x02")),
+        (bare(&[3, 0]), 99, Err((23, 2, 0)), None),
+        (bare(&[4, 0]), 99, Err((4, 4, 0)), None),
+        (bare(&[0, 0, 0, 1, 5, 0]), 99, Err((23, 4, 0)), Some(b"aig 3 0 0 0 3\n\x02\0\x03\x01\x01\x05")),
+        (given(2, none, &[], &[6, 2], &[], &[]), 99, Err((23, 6, 0)), Some(b"aig 3 2 0 0 1\n\0\x04")),
+        (given(0, [1, 0, 0, 0, 0], &[], &[], &[], &[2]), 99, Err((4, 2, 0)), Some(b"aig 0 0 0 1 0\n2\n")),
+        (given(1_048_576, none, &[], &[], &[], &[]), 99, Err((1, 0, 0)), Some(b"aig 1048576 1048576 0 0 0\n")),
+        (given(0, [1, 0, 0, 0, 0], &[], &[], &[], &[]), 99, Err((2, 0, 0)), None),
+        (given(0, none, &[], &[], &[1], &[]), 99, Err((2, 0, 0)), None),
+        (bare(&[0]), 99, Err((2, 0, 0)), None),
+        // the order of the checks: 1 before 2, 2 before 4, 4 before 23, 23 before 3
+        (given(1_048_576, [1, 0, 0, 0, 0], &[], &[0], &[], &[]), 99, Err((1, 0, 0)), None),
+        (bare(&[9, 0, 0]), 99, Err((2, 0, 0)), None),
+        (given(0, [1, 0, 0, 0, 0], &[], &[0, 1], &[], &[9]), 0, Err((4, 9, 0)), Some(b"aig 1 0 0 1 1\n9\n\x01\x01")),
+        (bare(&[0, 1]), 0, Err((23, 2, 0)), Some(b"aig 1 0 0 0 1\n\x01\x01")),
+        // the order of check 4: gates, next states, roots
+        (given(0, [1, 0, 0, 0, 0], &[8], &[0, 7], &[], &[9]), 0, Err((4, 7, 0)), None),
+        (given(0, [1, 0, 0, 0, 0], &[8], &[0, 0], &[], &[9]), 0, Err((4, 8, 0)), Some(b"aig 2 0 1 1 1\n8\n9\n\x04\0")),
+        // counts up to the last that is not zero; sizes before literals, justice before fairness
+        good(given(1, [0, 1, 0, 0, 0], &[], &[], &[], &[2]), b"aig 1 1 0 0 0 1\n2\n"),
+        good(given(1, [0, 0, 0, 1, 0], &[], &[], &[], &[2]), b"aig 1 1 0 0 0 0 0 0 1\n2\n"),
+        good(given(1, none, &[], &[], &[0], &[]), b"aig 1 1 0 0 0 0 0 1\n0\n"),
+        good(given(2, [0, 0, 0, 1, 1], &[], &[4, 2, 5, 2], &[1], &[8, 6]), b"aig 4 2 0 0 2 0 0 1 1\n1\n6\n8\n\x02\x02\x03\x03"),
+        good(given(1, [1, 1, 1, 1, 3], &[3, 5], &[5, 2], &[1, 0, 2], &[0, 1, 2, 3, 4, 5, 6]), b"aig 4 1 2 1 1 1 1 3 1\n3\n5\n0\n1\n2\n1\n0\n2\n4\n5\n6\n3\n\x03\x03"),
+        // the papers' half adder, and deltas at the borders of their bytes
+        good(given(2, [2, 0, 0, 0, 0], &[], &[4, 2, 5, 3, 9, 7], &[], &[10, 6]), b"aig 5 2 0 2 3\n10\n6\n\x02\x02\x03\x02\x01\x02"),
+        good(given(127, none, &[], &[129, 1], &[], &[]), b"aig 128 127 0 0 1\n\x7f\x80\x01"),
+        good(given(127, none, &[], &[128, 1], &[], &[]), b"aig 128 127 0 0 1\n\x80\x01\x7f"),
+        good(given(1_048_574, none, &[], &[0, 0], &[], &[]), b"aig 1048575 1048574 0 0 1\n\xfe\xff\x7f\0"),
+        good(given(1_048_574, none, &[], &[2_097_149, 2_080_765], &[], &[]), b"aig 1048575 1048574 0 0 1\n\x01\x80\x80\x01"),
+    ]
+}
