@@ -17,10 +17,10 @@
 #include <stdint.h>
 
 /* The version of this header and of the archive that belongs to it. */
-#define IMDAGLUZ_VERSION "0.3.1"
+#define IMDAGLUZ_VERSION "0.3.2"
 #define IMDAGLUZ_VERSION_MAJOR 0
 #define IMDAGLUZ_VERSION_MINOR 3
-#define IMDAGLUZ_VERSION_PATCH 1
+#define IMDAGLUZ_VERSION_PATCH 2
 
 #ifdef __cplusplus
 extern "C" {
