@@ -4,7 +4,7 @@ use crate::{aiger::File, reading};
 use judge::{
     circuit::Circuit,
     file_crate, file_kinds, file_shrink,
-    file_words::{read, Ordered, Rules, AMPLE},
+    file_words::{read, Rules, AMPLE},
     hex,
     random::Random,
     write_compare::{compare, Compared},
@@ -269,19 +269,6 @@ pub fn large(tally: &mut Tally) {
     });
 }
 
-/// What is to be written of a file that was read.
-fn given_of(circuit: &Ordered) -> Given {
-    let words = |list: &[u64]| list.iter().map(|&word| word as u32).collect::<Vec<u32>>();
-    Given {
-        inputs: circuit.inputs as u32,
-        counts: words(&circuit.counts),
-        nexts: words(&circuit.nexts),
-        gates: words(&circuit.gates),
-        sizes: words(&circuit.sizes),
-        roots: words(&circuit.roots),
-    }
-}
-
 /// A file that the port reads and writes: the same bytes just when it is plain, the same length just then too, and the same circuit when it is read again. Answers whether
 /// the file is plain; none where it is not read.
 fn trip(bytes: &[u8]) -> Result<Option<bool>, String> {
@@ -294,7 +281,7 @@ fn trip(bytes: &[u8]) -> Result<Option<bool>, String> {
     let counts = first.answer[5..10].iter().map(|&count| count as u32).collect();
     let [nexts, gates, sizes, roots] = first.lists.clone();
     let given = Given { inputs: first.answer[2] as u32, counts, nexts, gates, sizes, roots };
-    if given != given_of(&circuit) {
+    if given != Given::from(&circuit) {
         return Err("the port reads another circuit".into());
     }
     // measured by a call that lends no byte
@@ -322,7 +309,7 @@ fn trip(bytes: &[u8]) -> Result<Option<bool>, String> {
     if write_crate::write(&write_crate::record(&given, given.top())).as_deref() != Some(out) {
         return Err("the crate writes other bytes".into());
     }
-    if file_crate::read(bytes).is_ok_and(|circuit| given_of(&circuit) != given) {
+    if file_crate::read(bytes).is_ok_and(|circuit| Given::from(&circuit) != given) {
         return Err("the crate reads another circuit".into());
     }
     Ok(Some(plain))
