@@ -17,10 +17,10 @@
 #include <stdint.h>
 
 /* The version of this header and of the archive that belongs to it. */
-#define IMDAGLUZ_VERSION "0.3.1"
+#define IMDAGLUZ_VERSION "0.3.2"
 #define IMDAGLUZ_VERSION_MAJOR 0
 #define IMDAGLUZ_VERSION_MINOR 3
-#define IMDAGLUZ_VERSION_PATCH 1
+#define IMDAGLUZ_VERSION_PATCH 2
 
 #ifdef __cplusplus
 extern "C" {
@@ -28,6 +28,9 @@ extern "C" {
 
 /* The largest V, I, L, G and R, and so the most words that a list of codes has: lists of this length, gates of pairs twice it, hold every circuit. */
 #define IMDAGLUZ_LIST 1048575
+
+/* The most bytes that a binary file has, as imdagluz_write_aig writes it, of a circuit with so many variables, roots and justice sets. */
+#define IMDAGLUZ_FILE_BYTES(variables, roots, sets) (76 + 8 * ((size_t)(variables) + (size_t)(roots) + (size_t)(sets)))
 
 /* Refusal numbers. 0 is success. imdagluz_delta gives 3 and 15 to 17, imdagluz_renumber 1 to 8, imdagluz_read_aig 1, 3, 10 to 12 and 15 to 21,
  * imdagluz_expand 1 to 3, imdagluz_write_aig 1 to 4 and 23. No function here gives 13 or 14, which are for a literal that a text file assigns, or 22. */
@@ -264,8 +267,8 @@ uint32_t imdagluz_expand(uint32_t inputs, uint32_t latches, const uint32_t *gate
  *           latch, with its next state and no reset, so that it starts at 0; the root lines in the file's order (outputs, bad states, constraints, justice
  *           sizes, justice literals, fairness); of each gate its code less the larger input, and that less the smaller one, each delta in its fewest bytes.
  *           There are no symbols and no comment.
- * The same circuit always gives the same bytes. A file has at most 76 + 8(V+R+J) bytes, and so never more than 25,165,876: where so many are lent, 3 is not
- * given for out.
+ * The same circuit always gives the same bytes. A file has at most IMDAGLUZ_FILE_BYTES(V, R, J) bytes, and so never more than 25,165,876: where so many are
+ * lent, 3 is not given for out, and nothing is measured first.
  *
  * Or answers a refusal, the first of these that applies; no refusal writes a byte of out:
  *   3   answer_length is below 2; this one writes nothing, not even to answer

@@ -70,17 +70,12 @@ static int rewrite(const uint8_t *bytes, size_t length, const char *name) {
                                 scratch, scratch_words, answer, 3);
     if (refused != 0) return refuses("renumbering", refused, answer[0]);
 
-    /* The first call lends no byte and measures, the second one writes. What was renumbered is an ordered circuit with the same inputs, counts and sizes. */
+    /* What was renumbered is an ordered circuit with the same inputs, counts and sizes. So many bytes hold every file of its size; who lends none is told how many
+     * are needed. */
     uint64_t written[2];
-    size_t room = 0;
-    uint8_t *out = memory(malloc(1));
-    for (int turn = 0; turn < 2; turn++) {
-        refused = imdagluz_write_aig(inputs, counts, 5, next_images, latches, gates_out, 2 * (size_t)answer[1], sizes, read[10], root_images, count, out, room,
-                                     written, 2);
-        if (refused != IMDAGLUZ_SHORT_BUFFER) break;
-        room = written[1];
-        out = memory(realloc(out, room));
-    }
+    size_t room = IMDAGLUZ_FILE_BYTES((size_t)inputs + latches + answer[1], count, read[10]);
+    uint8_t *out = memory(malloc(room));
+    refused = imdagluz_write_aig(inputs, counts, 5, next_images, latches, gates_out, 2 * (size_t)answer[1], sizes, read[10], root_images, count, out, room, written, 2);
     if (refused != 0) return refuses("writing", refused, written[0]);
     printf("read %" PRIu64 " of %zu bytes, %" PRIu32 " gates; written %" PRIu64 " bytes, %" PRIu32 " gates\n", read[0], length, made, written[1], answer[1]);
     int status = put(out, written[1], name);

@@ -96,17 +96,20 @@ static int reads_back(size_t length) {
         && same_list(given.roots, roots_back, read[5] + read[6] + read[7] + read[8] + read[9]);
 }
 
-/* A circuit that is written: measured with no byte and with a byte too few, then written into just enough bytes and into more. */
+/* A circuit that is written: measured with no byte and with a byte too few, then written into just enough bytes, more, and about as many as the largest file of
+ * its size has, from where on nothing is measured. */
 static void writes(const char *what) {
     size_t length = spell();
+    size_t most = IMDAGLUZ_FILE_BYTES(given.inputs + given.nexts.length + given.gates.length / 2, given.roots.length, given.sizes.length);
     refuses(what, 0, IMDAGLUZ_SHORT_BUFFER, 0, length);
     refuses(what, length - 1, IMDAGLUZ_SHORT_BUFFER, 0, length);
-    for (size_t more = 0; more <= PAST; more += PAST) {
-        if (call(length + more, LENT) != 0 || answer[0] != 0 || answer[1] != length || memcmp(out, spelt, length) != 0 || !bytes_kept(length, length + more)
+    if (length > most) failed(what);
+    size_t bytes[] = {length, length + PAST, most > length ? most - 1 : length, most, most + PAST};
+    for (size_t i = 0; i < sizeof bytes / sizeof bytes[0]; i++) {
+        if (call(bytes[i], LENT) != 0 || answer[0] != 0 || answer[1] != length || memcmp(out, spelt, length) != 0 || !bytes_kept(length, bytes[i])
             || !words_kept(WORDS) || !reads_back(length)) failed(what);
         cases++;
     }
-    if (length > 76 + 8 * ((uint64_t)given.inputs + given.nexts.length + given.gates.length / 2 + given.roots.length + given.sizes.length)) failed(what);
 }
 
 static void set(struct list *list, uint32_t *room, const uint32_t *words, size_t length) {

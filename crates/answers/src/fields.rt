@@ -26,6 +26,24 @@ pub fn number(s: &[u8], at: usize) -> Field {
     }
 }
 
+// The numbers that stand behind a letter and a space, as many as there is room for, and how many they are: none where the line does not have the letter.
+pub fn list(s: &[u8], letter: u8, out: &mut [u32]) -> usize
+    ensures { λ r. ⌜ Counts r (now (out .exit)) ⌝ }
+{
+    let mut n = 0;
+    let mut at = sum(find(s, 0, s.len(), letter), 2);
+    while n < out.len() {
+        let field = number(s, at);
+        if field.next == at {
+            return n;
+        }
+        out[n] = (field.value % 4294967296) as u32;
+        n += 1;
+        at = field.next;
+    }
+    n
+}
+
 // The bytes whose hexadecimal digits stand from a place on, as many as there is room for, and how many they are.
 pub fn bytes(s: &[u8], from: usize, out: &mut [u8]) -> usize
     ensures { λ r. ⌜ Counts r (now (out .exit)) ⌝ }

@@ -5,6 +5,7 @@ mod files;
 mod say;
 mod sheets;
 mod tokens;
+mod writings;
 
 ghost use mathlib.Core.Path.{_≡_};
 ghost use lib.ListN.{length};
@@ -34,11 +35,18 @@ fn lines(s: &[u8]) {
     }
 }
 
-// The first letter tells a file, and the second a sheet, from the tokens.
+// The first letter tells a file, a circuit that is written and a file that is written again, and the second a sheet, from the tokens.
 fn answer(line: &[u8]) {
-    if fields::byte(line, 0) == b'f' {
-        files::answer(line);
-    } else if fields::byte(line, 1) == b'h' {
+    match fields::byte(line, 0) {
+        b'f' => files::answer(line),
+        b'w' => writings::answer(line),
+        b'a' => writings::again(line),
+        _ => other(line),
+    }
+}
+
+fn other(line: &[u8]) {
+    if fields::byte(line, 1) == b'h' {
         sheets::answer(line);
     } else {
         tokens::answer(line);

@@ -1,4 +1,5 @@
-// Answers on standard output: `V value used`, `P first second used`, `R number place`, `F number words`, with a file's lists; and any text.
+// Answers on standard output: `V value used`, `P first second used`, `R number place`, `F number words`, with a file's lists, `W number words bytes`; and any
+// text.
 use libc::STDOUT_FILENO;
 use token::PairToken;
 use token::Reason;
@@ -33,9 +34,38 @@ pub fn pair(t: PairToken) {
 }
 
 fn refused(why: Reason, place: usize) {
+    refusal(token::number(why) as u64, place as u64);
+}
+
+pub fn refusal(n: u64, place: u64) {
     text(b"R ");
-    number(token::number(why) as u64);
-    last(place as u64);
+    number(n);
+    last(place);
+}
+
+// The number and the words of what is written.
+pub fn written(n: u32, words: [u64; 2]) {
+    text(b"W");
+    after(n as u64);
+    after(words[0]);
+    after(words[1]);
+}
+
+// A space and two hexadecimal digits for each byte; `-` where there is none.
+pub fn hex(s: &[u8]) {
+    text(b" ");
+    if s.len() == 0 {
+        text(b"-");
+    }
+    let mut i = 0;
+    while i < s.len() {
+        digits(s[i]);
+        i += 1;
+    }
+}
+
+fn digits(b: u8) {
+    io::print_hex(STDOUT_FILENO, b as u64, 2);
 }
 
 // A file's number and words.

@@ -1,5 +1,5 @@
 -- What a circuit that passed its checks gives to its writer: sums that fit, gates in order, its header; and each end of writing. Assumes nothing.
-use Prim.Native.Nat.{ℕ, _+_, _/_, _≤_, _<_}
+use Prim.Native.Nat.{ℕ, _+_, _*_, _/_, _≤_, _<_}
 use mathlib.Core.Path.{_≡_, refl, sym, ap, ap₂, _∙_, subst⁻¹}
 use mathlib.Core.List.{List, [], _++_}
 use native.Mathlib.Omega.{arith}
@@ -12,12 +12,14 @@ use Rattle.circuit.specs.Ordered.{InOrder}
 use Rattle.circuit.specs.Outcome.{limit, onto, pairsOf}
 use Rattle.lines.specs.declared.Header.{Header}
 use Rattle.ordered.specs.declared.given.Fault.the-variants.{Short}
-use Rattle.ordered.specs.Check.{Words}
+use Rattle.ordered.specs.WellOrdered.{variablesOf}
+use Rattle.ordered.specs.Check.{Words, circuitIn}
 use Rattle.ordered.specs.Given.{Given}
 use Rattle.ordered.proofs.Laid.{put-onto, pairs-length}
 use Rattle.binary.specs.declared.FileWritten.the-variants.{Written, Unwritten}
 use Rattle.binary.specs.Write.{headerWith, headerFor, partsOf, fileOf, fileIn, wrote, writtenTo}
 use Rattle.binary.proofs.Lengths.{file-short}
+use Rattle.binary.proofs.Most.{file-most}
 
 module _ (w : Words) (g : Given w) where
   pub few : (w .inputs + length (w .nexts) + length (w .gates) / 2 ≤ limit) × (length (w .sizes) ≤ limit)
@@ -25,15 +27,27 @@ module _ (w : Words) (g : Given w) where
 
   -- its codes fit a word, and its gates are in order
   pub ready : (h : Header) → h ≡ headerWith (w .inputs) (w .counts) (length (w .nexts)) (length (w .gates) / 2) (length (w .sizes))
-      → (h .inputs + length (w .nexts) + length (w .gates) ≤ 4194303) × InOrder (h .inputs + length (w .nexts)) (pairsOf (w .gates))
+      → (2 * (h .inputs + length (w .nexts)) + length (w .gates) ≤ 2097150) × InOrder (h .inputs + length (w .nexts)) (pairsOf (w .gates))
   ready h e =
-      subst⁻¹ (λ (x : Header). (x .inputs + length (w .nexts) + length (w .gates) ≤ 4194303) × InOrder (x .inputs + length (w .nexts)) (pairsOf (w .gates))) e
-      (omega (arith, few .0), g .ordered .gates)
+      subst⁻¹ (λ (x : Header). (2 * (x .inputs + length (w .nexts)) + length (w .gates) ≤ 2097150) × InOrder (x .inputs + length (w .nexts)) (pairsOf (w .gates))) e
+      (omega (arith, few .0, g .whole), g .ordered .gates)
 
   -- the header that the writer makes is the file's
   pub its-header : (h : Header) → h ≡ headerWith (w .inputs) (w .counts) (length (w .nexts)) (length (w .gates) / 2) (length (w .sizes))
       → h ≡ headerFor (fileIn w)
   its-header h e = e ∙ ap (λ (a : ℕ). headerWith (w .inputs) (w .counts) (length (w .nexts)) a (length (w .sizes))) (sym (pairs-length (w .gates)))
+
+  -- its largest variable, the roots and the sets are few, and with them so are the bytes
+  pub its-top : (h : Header) → h ≡ headerWith (w .inputs) (w .counts) (length (w .nexts)) (length (w .gates) / 2) (length (w .sizes)) → (top : ℕ)
+      → top ≡ h .top → top ≡ variablesOf (circuitIn w)
+  its-top h e top t = t ∙ ap (λ (x : Header). x .top) e ∙ omega (arith, pairs-length (w .gates))
+
+  pub countable : (top : ℕ) → top ≡ variablesOf (circuitIn w) → (top ≤ limit) × (length (w .roots) ≤ limit) × (length (w .sizes) ≤ limit)
+  countable top t = (omega (arith, g .ordered .variables), g .ordered .few, g .sets)
+
+  pub roomy : (top most : ℕ) → top ≡ variablesOf (circuitIn w) → most ≡ 76 + 8 * (top + length (w .roots) + length (w .sizes))
+      → length (fileOf (fileIn w)) ≤ most
+  roomy top most t m = omega (arith, t, m, file-most w g)
 
   pub its-parts : (h : Header) → h ≡ headerFor (fileIn w)
       → partsOf h (w .nexts) (w .sizes) (w .roots) (h .inputs + length (w .nexts)) (pairsOf (w .gates)) ≡ fileOf (fileIn w)

@@ -1,14 +1,13 @@
--- Writing by example, worked out from document 02: whole files, deltas where their number of bytes changes, every refusal with the lent bytes as they were, and
--- files that are not spelled as ours. By computation. Assumes nothing.
+-- Writing by example, worked out from document 02: whole files, deltas where their number of bytes changes, and every refusal with the lent bytes as they
+-- were. By computation: nothing here leans on a proof. Assumes nothing.
 use Prim.Native.Nat.{ℕ}
-use mathlib.Core.Path.{_≡_, refl, ap, subst, subst⁻¹}
+use mathlib.Core.Path.{_≡_, refl}
 use mathlib.Core.List.{List, [], _∷_, _++_}
-use native.Mathlib.Omega.{arith}
-use lib.ListN.{length, replicate}
+use lib.ListN.{replicate}
 use Rattle.token.specs.Format.{digitsOf, shortest}
 use Rattle.token.specs.Answer.{digitsAt, uintAt, goOnAt, binaryAt, deltaAt, headerFieldAt, pairAt}
 use Rattle.lit.specs.Code.{literal}
-use Rattle.circuit.specs.Walk.{Pair, firstCode}
+use Rattle.circuit.specs.Walk.{firstCode}
 use Rattle.lines.specs.Reading.{got}
 use Rattle.lines.specs.Lines.{isByte, byteAt, tagAt, numberAt, lineAt, linesAt, resetAt, latchAt, latchesAt}
 use Rattle.lines.specs.Sections.{countAt, othersAt, countsAt, headerAt, rootRoomAt, propertiesAt, sizesAt, rootsAt}
@@ -17,22 +16,17 @@ use Rattle.ordered.specs.declared.given.Fault.the-variants.{TooBig, Misshapen, 
 use Rattle.ordered.specs.declared.given.Checked.the-variants.{Fits, Faulty}
 use Rattle.ordered.specs.Check.{Words, tooLarge, uneven, checked}
 use Rattle.binary.specs.declared.FileWritten.the-variants.{Written, Unwritten}
-use Rattle.binary.specs.File.{File, Room, gateAt, gatesAt, sizedAt, listsAt, bodyAt, readFile}
-use Rattle.binary.specs.Spelling.{Gate, Spells}
+use Rattle.binary.specs.File.{File, gateAt, gatesAt, sizedAt, listsAt, bodyAt, readFile}
 use Rattle.binary.specs.Write.{headerWith, headerFor, gateBytes, gatesBytes, partsOf, fileOf, fileIn, wrote, writtenTo, writtenAs, writing}
-use Rattle.binary.specs.Sound.{Sound, Holds}
-use Rattle.binary.specs.Plain.{Fewest, ShortestGate, ShortestGates, Plain}
-use Rattle.binary.proofs.Written.{read-sound}
-use Rattle.binary.proofs.Same.{plain-exactly}
-use Rattle.binary.proofs.Pins.{pair, room, file, small, smallFile, rootlessFile}
+use Rattle.binary.proofs.Pins.{pair, room, file, smallFile, rootlessFile}
 
 -- 1. Whole files.
 
 -- no variable; the counts O B C F and the justice literals, roots and sizes
-abbrev bare : List ℕ → List ℕ → List ℕ → File
+abbrev pub bare : List ℕ → List ℕ → List ℕ → File
 bare counts roots sizes = file 0 [] [] counts roots sizes
 
-abbrev none : List ℕ
+abbrev pub none : List ℕ
 none = 0 ∷ 0 ∷ 0 ∷ 0 ∷ 0 ∷ []
 
 -- aig 0 0 0 0 0\n
@@ -40,7 +34,7 @@ abbrev empty : List ℕ
 empty = (97 ∷ 105 ∷ 103 ∷ 32 ∷ 48 ∷ 32 ∷ 48 ∷ 32 ∷ 48 ∷ 32 ∷ 48 ∷ 32 ∷ 48 ∷ 10 ∷ [])
 
 -- the small file and the one without roots, their resets dropped
-abbrev smallBytes : List ℕ
+abbrev pub smallBytes : List ℕ
 smallBytes =
     (97 ∷ 105 ∷ 103 ∷ 32 ∷ 54 ∷ 32 ∷ 50 ∷ 32 ∷ 49 ∷ 32 ∷ 50 ∷ 32 ∷ 51 ∷ 32 ∷ 49 ∷ 32 ∷ 49 ∷ 32 ∷ 50 ∷ 32 ∷ 49 ∷ 10 ∷ 56 ∷ 10 ∷ 49 ∷ 50 ∷ 10 ∷ 49 ∷ 51 ∷ 10 ∷
     57 ∷ 10 ∷ 51 ∷ 10 ∷ 50 ∷ 10 ∷ 49 ∷ 10 ∷ 54 ∷ 10 ∷ 49 ∷ 49 ∷ 10 ∷ 53 ∷ 10 ∷ 55 ∷ 10 ∷ 2 ∷ 4 ∷ 2 ∷ 5 ∷ 2 ∷ 1 ∷ [])
@@ -52,6 +46,9 @@ pub files-pinned :
     -- M is computed; each count of the row has its place
     (headerWith 21 (24 ∷ 26 ∷ 27 ∷ 29 ∷ 30 ∷ []) 22 23 28
     ≡ record { top = 66; inputs = 21; latches = 22; outputs = 24; gates = 23; bad = 26; constraints = 27; justice = 28; fairness = 29 })
+    -- a count that the row does not have is 0
+    × (headerWith 21 [] 22 23 28
+    ≡ record { top = 66; inputs = 21; latches = 22; outputs = 0; gates = 23; bad = 0; constraints = 0; justice = 28; fairness = 0 })
     -- L, A and J are counted
     × (headerFor smallFile
     ≡ record { top = 6; inputs = 2; latches = 1; outputs = 2; gates = 3; bad = 1; constraints = 1; justice = 2; fairness = 1 })
@@ -66,7 +63,7 @@ pub files-pinned :
     × (fileOf (bare (0 ∷ 0 ∷ 0 ∷ 1 ∷ 0 ∷ []) (1 ∷ []) []) ≡ (97 ∷ 105 ∷ 103 ∷ 32 ∷ 48 ∷ 32 ∷ 48 ∷ 32 ∷ 48 ∷ 32 ∷ 48 ∷ 32 ∷ 48 ∷ 32 ∷ 48 ∷ 32 ∷ 48 ∷ 32 ∷
     48 ∷ 32 ∷ 49 ∷ 10 ∷ 49 ∷ 10 ∷ []))
 unfolding digitsOf lineBytes countBytes afterTag rootsBytes firstCode shortest partsOf
-files-pinned = (refl, refl, refl, refl, refl, refl, refl, refl, refl)
+files-pinned = (refl, refl, refl, refl, refl, refl, refl, refl, refl, refl)
 
 -- what is written is read, whatever follows
 pub back-pinned :
@@ -129,101 +126,3 @@ pub writing-pinned :
     × (writing (words 1 none [] (2 ∷ 3 ∷ []) [] []) (7 ∷ 8 ∷ []) ≡ wrote (Unwritten (Disordered (literal 4)) 0) (7 ∷ 8 ∷ []))
 unfolding digitsOf lineBytes countBytes afterTag rootsBytes firstCode shortest partsOf checked tooLarge uneven writing
 writing-pinned = (refl, refl, refl, refl, refl, refl, refl, refl, refl, refl, refl)
-
--- 4. What can be written.
-
-pub sound-pinned :
-    Sound smallFile
-    -- four counts, and six; sizes that do not sum to the fifth
-    × (Sound (bare (0 ∷ 0 ∷ 0 ∷ 0 ∷ []) [] []) → ⊥)
-    × (Sound (bare (0 ∷ 0 ∷ 0 ∷ 0 ∷ 0 ∷ 0 ∷ []) [] []) → ⊥)
-    × (Sound (bare none [] (1 ∷ [])) → ⊥)
-    -- lists that are just long enough, and each a cell too short
-    × Holds (room 1 6 2 8) smallFile
-    × (Holds (room 0 9 9 9) smallFile → ⊥)
-    × (Holds (room 9 5 9 9) smallFile → ⊥)
-    × (Holds (room 9 9 1 9) smallFile → ⊥)
-    × (Holds (room 9 9 9 7) smallFile → ⊥)
-unfolding digitsOf digitsAt uintAt goOnAt binaryAt deltaAt headerFieldAt pairAt firstCode isByte byteAt tagAt numberAt lineAt linesAt resetAt latchAt
-    latchesAt countAt othersAt countsAt headerAt rootRoomAt propertiesAt sizesAt rootsAt gateAt gatesAt sizedAt listsAt bodyAt readFile
-sound-pinned = (
-  read-sound small (room 1 6 2 8) smallFile 55 refl,
-  λ k. omega (arith, k .five),
-  λ k. omega (arith, k .five),
-  λ k. omega (arith, k .sizes),
-  record { nexts = omega arith; gates = omega arith; sizes = omega arith; roots = omega arith },
-  λ k. omega (arith, k .nexts),
-  λ k. omega (arith, k .gates),
-  λ k. omega (arith, k .sizes),
-  λ k. omega (arith, k .roots),
-)
-
--- 5. Plain spellings.
-
--- one group for 0 and 127, two for 128; 0 by `80 00`, 5 by `85 00` and 127 by `ff 00` are not the fewest
-pub fewest-pinned :
-    Fewest (0 ∷ [])
-    × Fewest (127 ∷ [])
-    × Fewest (128 ∷ 1 ∷ [])
-    × (Fewest (128 ∷ 0 ∷ []) → ⊥)
-    × (Fewest (133 ∷ 0 ∷ []) → ⊥)
-    × (Fewest (255 ∷ 0 ∷ []) → ⊥)
-unfolding shortest
-fewest-pinned = (refl, refl, refl, λ e. omega (arith, e), λ e. omega (arith, e), λ e. omega (arith, e))
-
--- a gate whose deltas stand in these bytes: `82 00` for its first, `80 00` for its second, and `02 00`; and two gates in a row, the second the next
-pub shortest-pinned : (p q : Pair) (x y : List ℕ) (t : Gate 2 0 p x) (u : Gate 2 1 q y)
-    → (t .1 .front ≡ 130 ∷ 0 ∷ [] → ShortestGate 2 0 p x t → ⊥)
-    × (t .1 .second .front ≡ 128 ∷ 0 ∷ [] → ShortestGate 2 0 p x t → ⊥)
-    × (t .1 .front ≡ 2 ∷ [] → t .1 .second .front ≡ 0 ∷ [] → ShortestGate 2 0 p x t)
-    × (_≡_ {A = Type 0} (ShortestGates 2 (p ∷ q ∷ []) 0 (x ++ (y ++ [])) (x, y ++ [], t, (y, [], u, refl, refl), refl))
-    (ShortestGate 2 0 p x t × (ShortestGate 2 1 q y u × Unit {0})))
-unfolding shortest
-shortest-pinned p q x y t u = (
-  λ e s. let more : _≡_ {A = ℕ} 2 1 = subst Fewest e (s .0) in omega arith,
-  λ e s. let more : _≡_ {A = ℕ} 2 1 = subst Fewest e (s .1) in omega arith,
-  λ e g. (subst⁻¹ Fewest e refl, subst⁻¹ Fewest g refl),
-  refl,
-)
-
-abbrev smallRoom : Room
-smallRoom = room 1 6 2 8
-
--- aig 0 0 0 0 0 0\n
-abbrev zeroCount : List ℕ
-zeroCount = (97 ∷ 105 ∷ 103 ∷ 32 ∷ 48 ∷ 32 ∷ 48 ∷ 32 ∷ 48 ∷ 32 ∷ 48 ∷ 32 ∷ 48 ∷ 32 ∷ 48 ∷ 10 ∷ [])
-
--- aig 3 2 0 0 1\n and 6(4,4), the second delta by `80 00`, and by `00`
-abbrev gateFile : File
-gateFile = file 2 [] (pair 4 4 ∷ []) none [] []
-
-abbrev longDelta : List ℕ
-longDelta = (97 ∷ 105 ∷ 103 ∷ 32 ∷ 51 ∷ 32 ∷ 50 ∷ 32 ∷ 48 ∷ 32 ∷ 48 ∷ 32 ∷ 49 ∷ 10 ∷ 2 ∷ 128 ∷ 0 ∷ [])
-
-abbrev shortDelta : List ℕ
-shortDelta = (97 ∷ 105 ∷ 103 ∷ 32 ∷ 51 ∷ 32 ∷ 50 ∷ 32 ∷ 48 ∷ 32 ∷ 48 ∷ 32 ∷ 49 ∷ 10 ∷ 2 ∷ 0 ∷ [])
-
--- whatever spelling is seen in the bytes: a reset field, an optional count 0 at the end, and a delta `80 00` are not plain; ours is
-pub plain-pinned :
-    ((t : Spells smallRoom smallFile small) → Plain smallRoom smallFile small t → ⊥)
-    × ((t : Spells smallRoom smallFile smallBytes) → Plain smallRoom smallFile smallBytes t)
-    × ((t : Spells smallRoom (bare none [] []) zeroCount) → Plain smallRoom (bare none [] []) zeroCount t → ⊥)
-    × ((t : Spells smallRoom gateFile longDelta) → Plain smallRoom gateFile longDelta t → ⊥)
-    × ((t : Spells smallRoom gateFile shortDelta) → Plain smallRoom gateFile shortDelta t)
-unfolding digitsOf lineBytes countBytes afterTag rootsBytes firstCode shortest partsOf
-plain-pinned = (
-  λ t p. let e : _≡_ {A = ℕ} 55 53 = ap length (plain-exactly smallRoom smallFile small t .1 p) in omega arith,
-  λ t. plain-exactly smallRoom smallFile smallBytes t .0 refl,
-  λ t p. let e : _≡_ {A = ℕ} 16 14 = ap length (plain-exactly smallRoom (bare none [] []) zeroCount t .1 p) in omega arith,
-  λ t p. let e : _≡_ {A = ℕ} 17 16 = ap length (plain-exactly smallRoom gateFile longDelta t .1 p) in omega arith,
-  λ t. plain-exactly smallRoom gateFile shortDelta t .0 refl,
-)
-
--- there are such spellings: these bytes are read
-pub plain-read-pinned :
-    (readFile zeroCount smallRoom ≡ got (bare none [] []) 16)
-    × (readFile longDelta smallRoom ≡ got gateFile 17)
-    × (readFile shortDelta smallRoom ≡ got gateFile 16)
-unfolding digitsOf digitsAt uintAt goOnAt binaryAt deltaAt headerFieldAt pairAt firstCode isByte byteAt tagAt numberAt lineAt linesAt resetAt latchAt
-    latchesAt countAt othersAt countsAt headerAt rootRoomAt propertiesAt sizesAt rootsAt gateAt gatesAt sizedAt listsAt bodyAt readFile
-plain-read-pinned = (refl, refl, refl)

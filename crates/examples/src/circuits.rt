@@ -43,7 +43,7 @@ fn with_gates(line: &[u8], inputs: &[u32], states: &[u32], nexts: &[u32]) {
 fn record(line: &[u8], roots: usize) -> CircuitRecord {
     let counts = kinds(line, roots);
     CircuitRecord {
-        top: Var::from_index(top(line)),
+        top: Var::from_index(lists::one(line, b'V')),
         counts,
         trim: lists::named(line, b'T'),
         hash: lists::named(line, b'H'),
@@ -58,12 +58,6 @@ fn kinds(line: &[u8], roots: usize) -> [u32; 5] {
         counts[0] = (roots % 4294967296) as u32;
     }
     counts
-}
-
-fn top(line: &[u8]) -> u32 {
-    let mut top = [0u32; 1];
-    lists::list(line, b'V', &mut top);
-    top[0]
 }
 
 fn shown(
@@ -120,7 +114,7 @@ fn asked(name: &[u8], line: &[u8], map: &[u32]) {
         let mut codes = [0u32; 8];
         let n = lists::list(line, b'Q', &mut codes);
         say::text(name);
-        images(map, Var::from_index(top(line)), &codes[..n]);
+        images(map, Var::from_index(lists::one(line, b'V')), &codes[..n]);
     }
 }
 

@@ -1,6 +1,7 @@
 // Bytes as a text in quotes: `\n` and `\r` for the ends of lines, `\x` and two hexadecimal digits for any byte, and each other letter for itself.
 ghost use Rattle.io.specs.Counts.{Counts};
 use crate::fields;
+use crate::say;
 
 // The bytes of the text that begins at a place, up to its quote, as many as there is room for, and how many they are.
 pub fn bytes(s: &[u8], from: usize, out: &mut [u8]) -> usize
@@ -51,5 +52,25 @@ fn width(s: &[u8], at: usize) -> usize {
         b'n' | b'r' => 2,
         b'x' => 4,
         _ => 1,
+    }
+}
+
+// Prints the bytes as such a text: a letter, a digit, a mark or a space for itself, but for a quote and a backslash.
+pub fn show(s: &[u8]) {
+    let mut i = 0;
+    while i < s.len() {
+        shown(s[i]);
+        i += 1;
+    }
+}
+
+fn shown(b: u8) {
+    match b {
+        b'\n' => say::text(b"\\n"),
+        b' '..=b'!' | b'#'..=b'[' | b']'..=b'~' => say::byte(b),
+        _ => {
+            say::text(b"\\x");
+            say::digits(b);
+        }
     }
 }

@@ -156,7 +156,7 @@ fn counts(words: &[u64]) {
 }
 
 // A text, and the word at a place after it.
-fn part(s: &[u8], words: &[u64], at: usize) {
+pub fn part(s: &[u8], words: &[u64], at: usize) {
     if at < words.len() {
         say::counted(s, words[at]);
     }

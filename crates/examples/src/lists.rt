@@ -30,6 +30,13 @@ pub fn list(s: &[u8], letter: u8, words: &mut [u32]) -> usize
     n
 }
 
+// The first number of the letter's list; 0 where it has none.
+pub fn one(s: &[u8], letter: u8) -> u32 {
+    let mut first = [0u32; 1];
+    list(s, letter, &mut first);
+    first[0]
+}
+
 // Puts the number that begins at a place, after the last byte, into the word n, and answers the next word: n, where none begins or no word is left.
 fn number(s: &[u8], at: usize, last: u8, words: &mut [u32], n: usize) -> usize
     requires { ⌜ n ≤ length (now words) ⌝ }

@@ -1,6 +1,5 @@
 pub mod Words
 pub mod Writing
-pub mod Most
 pub mod Pins
 pub mod WritePins
 pub mod Refusals

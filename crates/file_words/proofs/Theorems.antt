@@ -35,7 +35,7 @@ use Rattle.ordered.proofs.Theorems.{exactly, fits-exactly}
 use Rattle.file_words.specs.Read.{Seen, fileNumber, readSeen}
 use Rattle.file_words.specs.Write as write
 use Rattle.file_words.specs.Write.{writtenNumber, asSeen, writeSeen}
-use Rattle.file_words.proofs.Most as most
+use Rattle.binary.proofs.Most as most
 use Rattle.file_words.proofs.Refusals.{Only, Has, only-read}
 use Rattle.file_words.proofs.read.Kinds as read-kinds
 use Rattle.file_words.proofs.read.Reads as read-promise

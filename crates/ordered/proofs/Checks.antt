@@ -30,6 +30,7 @@ use Rattle.ordered.specs.declared.given.Checked.the-variants as Checked
 use Rattle.ordered.specs.WellOrdered.{variablesOf}
 use Rattle.ordered.specs.Check.{Words, circuitIn, tooLarge, uneven, codesOf, breaksOrder, firstDisordered, faultAt, checked}
 use Rattle.ordered.proofs.Laid.{pairs-length, pairs-at}
+use Rattle.ordered.proofs.Exactly.{Loose, noneLoose, oneLoose, looseTest, in-order-within}
 
 -- check 1
 module _ (variables roots sets : ℕ) where
@@ -150,6 +151,15 @@ module _ (t : ℕ) (ws : List ℕ) (j : ℕ) where
 
   pub disordered-end : length ws / 2 ≤ j → Nothing ≡ found left
   disordered-end h = rw (drop-at-end (pairsOf ws) j (omega (arith, pairs-length ws)))
+
+-- gates in which the code found nothing out of order have no code over the bound
+pub none-in-order : (t b : ℕ) (ws : List ℕ) → length ws % 2 ≡ 0 → t + length ws ≤ b + 1 → (f : Found) → f ≡ found (firstDisordered t (pairsOf ws)) → f ≡ Nothing
+    → Nothing ≡ found (firstOver b ws)
+none-in-order t b ws even fits f e n = go (firstDisordered t (pairsOf ws)) (looseTest t (pairsOf ws)) (sym e ∙ n)
+  where
+    go : (o : Option ℕ) → Loose t (pairsOf ws) o → found o ≡ Nothing → Nothing ≡ found (firstOver b ws)
+    go o (noneLoose k) m = sym (ap found (in-order-within t b ws even fits k))
+    go o (oneLoose d k) m = absurd (let z : _≡_ {A = ℕ} 0 1 = cc in omega arith)
 
 -- what is lent, from its parts
 abbrev pub lent : Shape → List ℕ → List ℕ → List ℕ → List ℕ → Words

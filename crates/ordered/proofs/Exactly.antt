@@ -192,6 +192,14 @@ is-first-loose t ps d k = go (firstDisordered t ps) (looseTest t ps)
         let e = same-place (k′ .place) (k .place) (λ h. k′ .isLoose (k .before (k′ .place) h)) (λ h. k .isLoose (k′ .before (k .place) h)) in
         ap some (omega (arith, k .code, k′ .code))
 
+-- where check 2 is passed the gates have two words each
+pub even-words : (w : Words) → uneven (w .counts) (length (w .roots)) (w .sizes) (length (w .gates)) ≡ false → length (w .gates) % 2 ≡ 0
+even-words w e = go (uneven (w .counts) (length (w .roots)) (w .sizes) (length (w .gates))) (sumsTest w) e
+  where
+    go : (b : Bool) → Sums w b → b ≡ false → length (w .gates) % 2 ≡ 0
+    go b (unequal f) e = absurd (let z : _≡_ {A = ℕ} 0 1 = cc in omega arith)
+    go b (equal k) e = k .words
+
 -- words that are two a gate
 words-within : (b : ℕ) (ws : List ℕ) → length ws % 2 ≡ 0
     → ((j : ℕ) → j < length (pairsOf ws) → (getD (pairsOf ws) j noPair .larger ≤ b) × (getD (pairsOf ws) j noPair .smaller ≤ b)) → AllWithin b ws
@@ -200,6 +208,13 @@ words-within b (x ∷ []) e f c i = absurd (omega arith)
 words-within b (x ∷ y ∷ ws) e f c (inl i) = omega (arith, f 0 (omega arith) .0)
 words-within b (x ∷ y ∷ ws) e f c (inr (inl i)) = omega (arith, f 0 (omega arith) .1)
 words-within b (x ∷ y ∷ ws) e f c (inr (inr i)) = words-within b ws (omega arith) (λ j h. f (suc j) (omega arith)) c i
+
+-- the inputs of gates that are in order are below the gates' own codes, so that none is over a bound that these keep
+pub in-order-within : (t b : ℕ) (ws : List ℕ) → length ws % 2 ≡ 0 → t + length ws ≤ b + 1 → AllInOrder t (pairsOf ws) → firstOver b ws ≡ none
+in-order-within t b ws even fits f =
+    none-over b ws
+    (words-within b ws even
+    (λ j i. let g = f j i in (omega (arith, g .1, i, pairs-length ws), omega (arith, g .0, g .1, i, pairs-length ws))))
 
 pub words-back : (ws : List ℕ) → length ws % 2 ≡ 0 → pairWords (pairsOf ws) ≡ ws
 words-back [] e = refl

@@ -101,11 +101,30 @@ fn is_uneven(counts: [u32; 5], roots: usize, sizes: &[u32], words: usize) -> boo
     words % 2 != 0
 }
 
+// Check 4 of the gates, where it is known which is the first that is not in order: the codes of gates that are in order are not looked at.
+fn over_in_gates(bound: usize, gates: &[u32], loose: Found) -> Found
+    requires { ⌜ (loose ≡ Found.Nothing → Found.Nothing ≡ found (firstOver bound (now gates))) ⌝ }
+    ensures { λ r. ⌜ r ≡ found (firstOver bound (now (gates .entry))) ⌝ }
+{
+    match loose {
+        Found::Nothing => Found::Nothing,
+        Found::Literal(_gate) => over_in(gates, bound),
+    }
+}
+
 // Check 4.
-fn over(bound: usize, gates: &[u32], nexts: &[u32], roots: &[u32], asked: Lit) -> Found
+fn over(
+    bound: usize,
+    gates: &[u32],
+    nexts: &[u32],
+    roots: &[u32],
+    asked: Lit,
+    loose: Found,
+) -> Found
+    requires { ⌜ (loose ≡ Found.Nothing → Found.Nothing ≡ found (firstOver bound (now gates))) ⌝ }
     ensures { λ r. ⌜ r ≡ found (firstOver bound (codesOf (now (gates .entry)) (now (nexts .entry)) (now (roots .entry)) (asked .0))) ⌝ }
 {
-    let first = over_in(gates, bound);
+    let first = over_in_gates(bound, gates, loose);
     if let Found::Literal(_) = first {
         return first;
     }
@@ -180,15 +199,13 @@ pub fn check(
     if is_uneven(counts, roots.len(), sizes, gates.len()) {
         return Checked::Faulty(Fault::Misshapen);
     }
-    let large = over(2 * variables + 1, gates, nexts, roots, asked);
+    let loose = first_disordered(2 * (sources + 1), gates);
+    let large = over(2 * variables + 1, gates, nexts, roots, asked, loose);
     match large {
         Found::Literal(lit) => Checked::Faulty(Fault::Over(lit)),
-        Found::Nothing => {
-            let loose = first_disordered(2 * (sources + 1), gates);
-            match loose {
-                Found::Literal(lit) => Checked::Faulty(Fault::Disordered(lit)),
-                Found::Nothing => Checked::Fits,
-            }
-        }
+        Found::Nothing => match loose {
+            Found::Literal(gate) => Checked::Faulty(Fault::Disordered(gate)),
+            Found::Nothing => Checked::Fits,
+        },
     }
 }

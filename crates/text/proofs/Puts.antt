@@ -7,7 +7,7 @@ use native.Mathlib.Nat.{add-zero, add-suc, suc-add}
 use native.Mathlib.Numerals.{add-one}
 use native.Mathlib.Omega.{arith, min-cases}
 use lib.ListN.{length, getD, set, take, drop, length-set, length-append, take-append-drop, drop-of-length-le}
-use lib.Seq.{take-suc, take-all, length-take-le, set-out, set-comm, sets, sets-eq}
+use lib.Seq.{take-suc, take-all, take-append-seam, length-take-le, set-out, set-comm, sets, sets-eq}
 use Rattle.place.specs.Place.{last, further}
 use Rattle.place.proofs.Theorems.{further-none, further-twice}
 use Rattle.text.specs.Put.{putAll}
@@ -41,6 +41,12 @@ put-all-fits out at bs room = as-sets out at bs ∙ sets-eq bs out at room ∙ a
     as-sets : (l : List ℕ) (i : ℕ) (vs : List ℕ) → putAll l i vs ≡ sets l i vs
     as-sets l i [] = refl
     as-sets l i (v ∷ vs) = as-sets (set l i v) (suc i) vs
+
+-- a text that fits from the front on is what stands there
+pub put-all-front : (out bs : List ℕ) (n : ℕ) → n ≡ length bs → n ≤ length out → take n (putAll out 0 bs) ≡ bs
+put-all-front out bs n e room =
+    ap (λ (k : ℕ). take k (putAll out 0 bs)) e ∙ ap (take (length bs)) (put-all-fits out 0 bs (omega arith))
+    ∙ take-append-seam bs (drop (0 + length bs) out)
 
 -- any text: as much of it as fits
 pub put-all-is : (out : List ℕ) (at : ℕ) (bs : List ℕ) → at ≤ length out

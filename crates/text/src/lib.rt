@@ -1,7 +1,7 @@
 // Text put into lent bytes from a place on. What does not fit is not written, and the place after it is answered all the same: the length of a
 // text is what the same writer answers on a part with no room.
 ghost use mathlib.Core.Path.{_≡_};
-ghost use Prim.Native.Nat.{_+_, _<_};
+ghost use Prim.Native.Nat.{_+_, _<_, _≤_};
 ghost use lib.ListN.{length, set};
 ghost use Rattle.place.specs.Place.{further};
 ghost use Rattle.token.specs.Format.{digitsOf, shortest};
@@ -78,19 +78,19 @@ fn digit_count(v: u64) -> usize
     n + few_digits(rest)
 }
 
-// The decimal digits of a number from a place on, as far as they fit. They are made from the last one to the first.
+// The decimal digits of a number from a place on, where all of them fit. They are made from the last one to the first.
 fn digits_from(out: &mut [u8], at: usize, v: u64, n: usize)
-    requires { ⌜ (at < length (now out)) × (n ≡ length (digitsOf v)) ⌝ }
+    requires { ⌜ (at + n ≤ length (now out)) × (n ≡ length (digitsOf v)) ⌝ }
     ensures { λ _. ⌜ now (out .exit) ≡ putAll (now (out .entry)) at (digitsOf v) ⌝ }
 {
     let mut place = at + n - 1;
     let mut rest = v;
     while 10 <= rest {
-        store(out, place, digit(rest % 10));
+        out[place] = digit(rest % 10);
         place -= 1;
         rest = rest / 10;
     }
-    store(out, place, digit(rest));
+    out[place] = digit(rest);
 }
 
 // The decimal digits of a number, as far as they fit; the place after them.
@@ -100,6 +100,11 @@ pub fn put_decimal(out: &mut [u8], at: usize, v: u64) -> usize
     let n = digit_count(v);
     if out.len() <= at {
         return place::further(at, n);
+    }
+    if out.len() - at < n {
+        let mut row = [0u8; 20];
+        digits_from(&mut row, 0, v, n);
+        return put_bytes(out, at, &row[..n]);
     }
     digits_from(out, at, v, n);
     at + n

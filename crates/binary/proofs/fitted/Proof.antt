@@ -1,7 +1,8 @@
--- `binary::fitted` meets its contract: the file is measured by its writer on no bytes, and written where it fits. Assumes nothing.
+-- `binary::fitted` meets its contract: where more bytes are lent than any such file has, it is written; else it is measured by its writer on no bytes, and
+-- written where it fits. Assumes nothing.
 use Prim.Native.Nat.{ℕ}
-use mathlib.Core.Path.{_≡_, ap, _∙_}
-use mathlib.Core.List.{List, _++_}
+use mathlib.Core.Path.{_≡_, refl, ap, _∙_}
+use mathlib.Core.List.{List, [], _++_}
 use native.Mathlib.Omega.{arith}
 use lib.ListN.{length}
 use denote.Ref.{now}
@@ -9,7 +10,7 @@ use Rattle.text.specs.Put.{putAll}
 use Rattle.ordered.specs.declared.given.Fault.the-variants.{Short}
 use Rattle.binary.specs.declared.FileWritten.the-variants.{Unwritten}
 use Rattle.binary.specs.Write.{wrote}
-use Rattle.binary.proofs.Fitting.{few, ready, its-header, measured, none-put, too-short, whole}
+use Rattle.binary.proofs.Fitting.{few, ready, its-header, its-top, countable, roomy, measured, none-put, too-short, whole}
 use borrow.Author.Needs.{needs}
 use Rattle.binary.proofs.fitted.Statement.{statement}
 use Rattle.binary.proofs.fitted.Tie as tie
@@ -17,15 +18,19 @@ use Rattle.binary.proofs.fitted.Tie as tie
 header-for-requires : tie.Need-header-for-requires
 header-for-requires c κs = few _ (c .before .before .before .before .before .pre)
 
-slice-relend-prefix-put-file : tie.Need-slice-relend-prefix-put-file
-slice-relend-prefix-put-file c = search needs
+wide-requires : tie.Need-wide-requires
+wide-requires c κs = search needs
 
-slice-aggregate-put-file : tie.Need-slice-aggregate-put-file
-slice-aggregate-put-file c = search needs
+most-bytes-requires : tie.Need-most-bytes-requires
+most-bytes-requires c κs =
+    let headerAt = c .before in
+    let entry = headerAt .before .before .before .before .before .before in
+    countable _ (entry .pre) (c .wide .result)
+    (its-top _ (entry .pre) (headerAt .header-for .result) (headerAt .header-for .ensures) (c .wide .result) (c .wide .ensures))
 
 put-file-requires : tie.Need-put-file-requires
 put-file-requires c κs =
-    let headerAt = c .before in
+    let headerAt = c .before .before .before .before in
     let entry = headerAt .before .before .before .before .before .before in
     ready _ (entry .pre) (headerAt .header-for .result) (headerAt .header-for .ensures)
 
@@ -34,18 +39,27 @@ same-length c = search needs
 
 returns : tie.Need-returns
 returns c =
-    let fileAt = c .before .before .before in
-    let headerAt = fileAt .before .before in
+    let writtenAt = c .before .before in
+    let mostAt = writtenAt .before .before .before in
+    let wideAt = mostAt .before in
+    let headerAt = wideAt .before in
     let entry = headerAt .before .before .before .before .before .before in
     let h = its-header _ (entry .pre) (headerAt .header-for .result) (headerAt .header-for .ensures) in
-    let n = measured _ (entry .pre) (headerAt .header-for .result) h (fileAt .put-file .result) (fileAt .put-file .ensures .1) in
-    let none = none-put _ (entry .pre) (headerAt .header-for .result) _ (fileAt .put-file .ensures .0) in
-    ap (λ (x : List ℕ). wrote (Unwritten Short (fileAt .put-file .result)) (x ++ now (entry .args .out))) none
-    ∙ too-short _ (entry .pre) (now (entry .args .out)) (fileAt .put-file .result) n (omega arith)
+    let top = its-top _ (entry .pre) (headerAt .header-for .result) (headerAt .header-for .ensures) (wideAt .wide .result) (wideAt .wide .ensures) in
+    let n = measured _ (entry .pre) (headerAt .header-for .result) h (writtenAt .put-file .result) (writtenAt .put-file .ensures .1) in
+    let room = roomy _ (entry .pre) (wideAt .wide .result) (mostAt .most-bytes .result) top (mostAt .most-bytes .ensures) in
+    whole _ (entry .pre) (headerAt .header-for .result) h [] (now (entry .args .out)) _ (writtenAt .put-file .result) n (omega (arith, n, room)) refl
+    (writtenAt .put-file .ensures .0)
+
+slice-relend-prefix-put-file : tie.Need-slice-relend-prefix-put-file
+slice-relend-prefix-put-file c = search needs
+
+slice-aggregate-put-file : tie.Need-slice-aggregate-put-file
+slice-aggregate-put-file c = search needs
 
 put-file-requires-2 : tie.Need-put-file-requires-2
 put-file-requires-2 c κs =
-    let headerAt = c .before .before .before .before .before .before in
+    let headerAt = c .before .before .before .before in
     let entry = headerAt .before .before .before .before .before .before in
     ready _ (entry .pre) (headerAt .header-for .result) (headerAt .header-for .ensures)
 
@@ -54,27 +68,53 @@ same-length-2 c = search needs
 
 returns-2 : tie.Need-returns-2
 returns-2 c =
-    let writtenAt = c .before .before in
-    let fileAt = writtenAt .before .before .before .before .before in
-    let headerAt = fileAt .before .before in
+    let fileAt = c .before .before .before in
+    let headerAt = fileAt .before .before .before .before .before in
     let entry = headerAt .before .before .before .before .before .before in
     let h = its-header _ (entry .pre) (headerAt .header-for .result) (headerAt .header-for .ensures) in
-    let n = measured _ (entry .pre) (headerAt .header-for .result) h (fileAt .put-file .result) (fileAt .put-file .ensures .1) in
-    let none = none-put _ (entry .pre) (headerAt .header-for .result) _ (fileAt .put-file .ensures .0) in
+    let n = measured _ (entry .pre) (headerAt .header-for .result) h (fileAt .put-file2 .result) (fileAt .put-file2 .ensures .1) in
+    let none = none-put _ (entry .pre) (headerAt .header-for .result) _ (fileAt .put-file2 .ensures .0) in
+    ap (λ (x : List ℕ). wrote (Unwritten Short (fileAt .put-file2 .result)) (x ++ now (entry .args .out))) none
+    ∙ too-short _ (entry .pre) (now (entry .args .out)) (fileAt .put-file2 .result) n (omega arith)
+
+put-file-requires-3 : tie.Need-put-file-requires-3
+put-file-requires-3 c κs =
+    let headerAt = c .before .before .before .before .before .before .before .before .before in
+    let entry = headerAt .before .before .before .before .before .before in
+    ready _ (entry .pre) (headerAt .header-for .result) (headerAt .header-for .ensures)
+
+same-length-3 : tie.Need-same-length-3
+same-length-3 c = search needs
+
+returns-3 : tie.Need-returns-3
+returns-3 c =
+    let writtenAt = c .before .before in
+    let shortAt = writtenAt .before .before in
+    let fileAt = shortAt .before .before .before in
+    let headerAt = fileAt .before .before .before .before .before in
+    let entry = headerAt .before .before .before .before .before .before in
+    let h = its-header _ (entry .pre) (headerAt .header-for .result) (headerAt .header-for .ensures) in
+    let n = measured _ (entry .pre) (headerAt .header-for .result) h (fileAt .put-file2 .result) (fileAt .put-file2 .ensures .1) in
+    let none = none-put _ (entry .pre) (headerAt .header-for .result) _ (fileAt .put-file2 .ensures .0) in
     let long = ap (λ (x : List ℕ). length (x ++ now (entry .args .out))) none in
-    whole _ (entry .pre) (headerAt .header-for .result) h _ (now (entry .args .out)) _ (fileAt .put-file .result) n
-    (omega (arith, long, c .before .before .before .before .if1 .left)) none (writtenAt .put-file2 .ensures .0)
+    whole _ (entry .pre) (headerAt .header-for .result) h _ (now (entry .args .out)) _ (fileAt .put-file2 .result) n (omega (arith, long, shortAt .if2 .left))
+    none (writtenAt .put-file3 .ensures .0)
 
 pub fitted-spec : {M : Type 1} → statement M
 fitted-spec =
     tie.close
     (tie.spec
     header-for-requires
-    slice-relend-prefix-put-file
-    slice-aggregate-put-file
+    wide-requires
+    most-bytes-requires
     put-file-requires
     same-length
     returns
+    slice-relend-prefix-put-file
+    slice-aggregate-put-file
     put-file-requires-2
     same-length-2
-    returns-2)
+    returns-2
+    put-file-requires-3
+    same-length-3
+    returns-3)

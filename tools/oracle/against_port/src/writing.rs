@@ -4,7 +4,7 @@ use crate::{aiger::File, reading};
 use judge::{
     circuit::Circuit,
     file_crate, file_kinds, file_shrink,
-    file_words::{read, Ordered, Rules, AMPLE},
+    file_words::{read, Rules, AMPLE},
     hex,
     random::Random,
     write_compare::{compare, Compared},
@@ -18,6 +18,9 @@ const ANSWER: usize = 2;
 
 /// How many bytes and words stand behind those that are lent, which nobody may write.
 const PAST: usize = 8;
+
+/// The most bytes that are lent though fewer are needed, but for circuits at the limits: a million of them would take long.
+const AMPLE_BYTES: usize = 65_536;
 
 /// After how many circuits a line says how many were compared.
 const PROGRESS: u64 = 1_000_000;
@@ -132,6 +135,10 @@ enum Spare {
     More(usize, usize),
     /// Bytes fewer than needed.
     Fewer(usize),
+    /// From four bytes fewer than the largest file of such a circuit has to some more, so that the port measures or does not, and words of the answer.
+    Ample(usize, usize),
+    /// As many bytes as the largest file of such a circuit has.
+    Most,
     /// So many bytes.
     Just(usize),
 }
@@ -143,14 +150,18 @@ impl Spare {
             1 => Spare::Fewer(1),
             2 => Spare::Fewer(random.between(1, 20) as usize),
             3 => Spare::Just(random.index(40)),
+            4..=21 => Spare::Ample(random.index(9), ANSWER + random.index(3)),
             _ => Spare::More(random.index(9), ANSWER + random.index(3)),
         }
     }
 
     fn lent(self, given: &Given) -> Lent {
         let needed = if given.shaped() && given.fault().is_none() { given.bytes(given.top()).map_or(0, |bytes| bytes.len()) } else { 40 };
+        let most = 76 + 8 * (given.inputs as usize + given.nexts.len() + given.gates.len() / 2 + given.roots.len() + given.sizes.len());
         match self {
-            Spare::More(bytes, words) => Lent { bytes: needed + bytes, words },
+            Spare::Ample(bytes, words) if most <= AMPLE_BYTES => Lent { bytes: needed.max(most + bytes - 4), words },
+            Spare::Ample(bytes, words) | Spare::More(bytes, words) => Lent { bytes: needed + bytes, words },
+            Spare::Most => Lent { bytes: most, words: ANSWER },
             Spare::Fewer(bytes) => Lent { bytes: needed.saturating_sub(bytes), words: ANSWER },
             Spare::Just(bytes) => Lent { bytes, words: ANSWER + 1 },
         }
@@ -240,10 +251,10 @@ pub fn random(tally: &mut Tally, mut random: Random, count: u64, gates: u64) {
     }
 }
 
-/// Small circuits, with as many bytes as they need, more, one fewer and none, and with a short answer list.
+/// Small circuits, with as many bytes as they need, as the largest file of their size has, one fewer than they need and none, and with a short answer list.
 pub fn small(tally: &mut Tally) {
     write_kinds::small(&mut Random(1), |given| {
-        for spare in [Spare::More(0, 2), Spare::More(3, 3), Spare::Fewer(1), Spare::Just(0), Spare::More(1, 1), Spare::More(1, 0)] {
+        for spare in [Spare::More(0, 2), Spare::Ample(4, 3), Spare::Fewer(1), Spare::Just(0), Spare::More(1, 1), Spare::More(1, 0)] {
             tally.compare(given, spare);
         }
     });
@@ -252,23 +263,10 @@ pub fn small(tally: &mut Tally) {
 /// Circuits at the limits.
 pub fn large(tally: &mut Tally) {
     write_kinds::large(&mut Random(1), |given| {
-        for spare in [Spare::More(0, 2), Spare::More(5, 2), Spare::Fewer(1)] {
+        for spare in [Spare::More(0, 2), Spare::More(5, 2), Spare::Fewer(1), Spare::Most] {
             tally.compare(given, spare);
         }
     });
-}
-
-/// What is to be written of a file that was read.
-fn given_of(circuit: &Ordered) -> Given {
-    let words = |list: &[u64]| list.iter().map(|&word| word as u32).collect::<Vec<u32>>();
-    Given {
-        inputs: circuit.inputs as u32,
-        counts: words(&circuit.counts),
-        nexts: words(&circuit.nexts),
-        gates: words(&circuit.gates),
-        sizes: words(&circuit.sizes),
-        roots: words(&circuit.roots),
-    }
 }
 
 /// A file that the port reads and writes: the same bytes just when it is plain, the same length just then too, and the same circuit when it is read again. Answers whether
@@ -283,7 +281,7 @@ fn trip(bytes: &[u8]) -> Result<Option<bool>, String> {
     let counts = first.answer[5..10].iter().map(|&count| count as u32).collect();
     let [nexts, gates, sizes, roots] = first.lists.clone();
     let given = Given { inputs: first.answer[2] as u32, counts, nexts, gates, sizes, roots };
-    if given != given_of(&circuit) {
+    if given != Given::from(&circuit) {
         return Err("the port reads another circuit".into());
     }
     // measured by a call that lends no byte
@@ -311,7 +309,7 @@ fn trip(bytes: &[u8]) -> Result<Option<bool>, String> {
     if write_crate::write(&write_crate::record(&given, given.top())).as_deref() != Some(out) {
         return Err("the crate writes other bytes".into());
     }
-    if file_crate::read(bytes).is_ok_and(|circuit| given_of(&circuit) != given) {
+    if file_crate::read(bytes).is_ok_and(|circuit| Given::from(&circuit) != given) {
         return Err("the crate reads another circuit".into());
     }
     Ok(Some(plain))

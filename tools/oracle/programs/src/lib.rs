@@ -23,5 +23,6 @@ pub mod write_compare;
 pub mod write_crate;
 pub mod write_examples;
 pub mod write_kinds;
+pub mod write_line;
 pub mod write_shrink;
 pub mod write_words;

@@ -208,6 +208,16 @@ pub fn any(random: &mut Random, gates: u64) -> Given {
     given
 }
 
+/// As many bytes as the file has, more, or fewer.
+pub fn room(random: &mut Random, given: &Given) -> usize {
+    let exact = if given.fault().is_some() { random.index(60) } else { given.bytes(given.top()).map_or(0, |bytes| bytes.len()) };
+    match random.below(20) {
+        0 => exact.saturating_sub(1),
+        1 => random.index(exact + 1),
+        _ => exact + random.index(3),
+    }
+}
+
 /// Every circuit of two gates over an input or with a root, and of one gate with two latches, with two inputs and a root, or with an input, a latch and a
 /// root, of all codes up to 2V+2, one more than there are; every shape with up to two inputs, latches and gates and up to two of each kind of root, in up to two
 /// justice sets; and each pair of deltas at a border.
@@ -265,5 +275,19 @@ pub fn large(random: &mut Random, mut tell: impl FnMut(&Given)) {
         let at = last.gates.len() - 2;
         last.gates[at..].copy_from_slice(&pair);
         tell(&last);
+    }
+}
+
+/// A gate for each two deltas at the borders of their bytes, over as few inputs as that takes.
+pub fn borders(mut tell: impl FnMut(&Given)) {
+    const DELTAS: [u64; 8] = [0, 1, 127, 128, 16_383, 16_384, 2_097_149, 2_097_150];
+    for first in DELTAS {
+        for second in DELTAS {
+            let top = (first + second).div_ceil(2).max(1);
+            if top <= LIMIT {
+                let gates = vec![(2 * top - first) as u32, (2 * top - first - second) as u32];
+                tell(&Given { inputs: top as u32 - 1, counts: vec![0; 5], gates, ..Given::default() });
+            }
+        }
     }
 }

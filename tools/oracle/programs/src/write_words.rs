@@ -1,6 +1,9 @@
 //! Request Q-4, writing an ordered circuit as a binary file, as document 02's words have it and not as the crate's code does. By the other `Rules` it writes as
 //! the crate would, were the lines of docs/DIFFERENCES.md all that sets the two apart: so that those lines can be held to the crate, each by itself.
-use crate::{circuit::put, file_words::LIMIT};
+use crate::{
+    circuit::put,
+    file_words::{Ordered, LIMIT},
+};
 
 /// What is to be written: numbers that nobody has checked yet.
 #[derive(Clone, Default, PartialEq, Eq, Debug)]
@@ -47,6 +50,21 @@ impl Line {
             Line::Own => "a gate's first input its own code (23), which the crate writes as a first delta of zero",
             Line::Above => "a gate's larger input above its own code (23), where the crate panics",
             Line::Short => "lent bytes too few (3)",
+        }
+    }
+}
+
+impl From<&Ordered> for Given {
+    /// What is to be written of a file that was read.
+    fn from(circuit: &Ordered) -> Given {
+        let words = |list: &[u64]| list.iter().map(|&word| word as u32).collect::<Vec<u32>>();
+        Given {
+            inputs: circuit.inputs as u32,
+            counts: words(&circuit.counts),
+            nexts: words(&circuit.nexts),
+            gates: words(&circuit.gates),
+            sizes: words(&circuit.sizes),
+            roots: words(&circuit.roots),
         }
     }
 }

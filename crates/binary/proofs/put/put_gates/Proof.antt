@@ -34,49 +34,49 @@ mul-first-2 c = search needs
 shared-slice-read-first : tie.Need-shared-slice-read-first Inv-loop μ-loop
 shared-slice-read-first c = search needs
 
-cast-put-groups : tie.Need-cast-put-groups Inv-loop μ-loop
+cast-put-gate : tie.Need-cast-put-gate Inv-loop μ-loop
 unfolding firstCode
-cast-put-groups c =
+cast-put-gate c =
     let loopAt = c .before .before .before in
     let entry = loopAt .before .before .before in
     omega (arith, loopAt .loop .inv .own, entry .pre .0)
 
-sub-put-groups : tie.Need-sub-put-groups Inv-loop μ-loop
-unfolding firstCode
-sub-put-groups c =
+sub-put-gate : tie.Need-sub-put-gate Inv-loop μ-loop
+sub-put-gate c =
     let loopAt = c .before .before .before in
     let entry = loopAt .before .before .before in
     omega (arith, falls (loopAt .loop .inv) (entry .pre .1) (omega arith))
 
-put-groups-requires : tie.Need-put-groups-requires Inv-loop μ-loop
-put-groups-requires c κs = search needs
+mul-put-gate : tie.Need-mul-put-gate Inv-loop μ-loop
+mul-put-gate c = search needs
 
-mul-put-groups : tie.Need-mul-put-groups Inv-loop μ-loop
-mul-put-groups c = search needs
+add-put-gate : tie.Need-add-put-gate Inv-loop μ-loop
+add-put-gate c = search needs
 
-add-put-groups : tie.Need-add-put-groups Inv-loop μ-loop
-add-put-groups c = search needs
+mul-put-gate-2 : tie.Need-mul-put-gate-2 Inv-loop μ-loop
+mul-put-gate-2 c = search needs
 
-mul-put-groups-2 : tie.Need-mul-put-groups-2 Inv-loop μ-loop
-mul-put-groups-2 c = search needs
+shared-slice-read-put-gate : tie.Need-shared-slice-read-put-gate Inv-loop μ-loop
+shared-slice-read-put-gate c = search needs
 
-shared-slice-read-put-groups : tie.Need-shared-slice-read-put-groups Inv-loop μ-loop
-shared-slice-read-put-groups c = search needs
-
-sub-put-groups-2 : tie.Need-sub-put-groups-2 Inv-loop μ-loop
-unfolding firstCode
-sub-put-groups-2 c =
-    let loopAt = c .before .before .before .before .before .before .before .before in
+sub-put-gate-2 : tie.Need-sub-put-gate-2 Inv-loop μ-loop
+sub-put-gate-2 c =
+    let loopAt = c .before .before .before .before in
     let entry = loopAt .before .before .before in
     omega (arith, falls (loopAt .loop .inv) (entry .pre .1) (omega arith))
 
-put-groups-requires-2 : tie.Need-put-groups-requires-2 Inv-loop μ-loop
-put-groups-requires-2 c κs = search needs
+put-gate-requires : tie.Need-put-gate-requires Inv-loop μ-loop
+unfolding firstCode
+put-gate-requires c κs =
+    let loopAt = c .before .before .before .before in
+    let entry = loopAt .before .before .before in
+    let below = falls (loopAt .loop .inv) (entry .pre .1) (omega arith) in
+    (omega (arith, loopAt .loop .inv .own, entry .pre .0), omega (arith, loopAt .loop .inv .own, entry .pre .0, below))
 
 add-code-2 : tie.Need-add-code-2 Inv-loop μ-loop
 unfolding firstCode
 add-code-2 c =
-    let loopAt = c .before .before .before .before .before .before .before .before .before .before .before in
+    let loopAt = c .before .before .before .before .before .before .before in
     let entry = loopAt .before .before .before in
     omega (arith, loopAt .loop .inv .own, entry .pre .0)
 
@@ -88,11 +88,10 @@ loop-less c = search needs
 
 loop-again : tie.Need-loop-again Inv-loop μ-loop
 loop-again c =
-    let secondAt = c .before .before in
-    let firstAt = secondAt .before .before .before .before .before in
-    let loopAt = firstAt .before .before .before .before in
+    let gateAt = c .before .before in
+    let loopAt = gateAt .before .before .before .before .before in
     let entry = loopAt .before .before .before in
-    putting-more (loopAt .loop .inv) (entry .pre .1) (omega arith) _ _ _ _ _ refl (omega arith) (firstAt .put-groups .ensures) (secondAt .put-groups2 .ensures)
+    putting-more (loopAt .loop .inv) (entry .pre .1) (omega arith) _ _ _ refl (omega arith) (gateAt .put-gate .ensures)
 
 same-length : tie.Need-same-length Inv-loop μ-loop
 same-length c = search needs
@@ -112,15 +111,14 @@ put-gates-spec =
     mul-first
     mul-first-2
     shared-slice-read-first
-    cast-put-groups
-    sub-put-groups
-    put-groups-requires
-    mul-put-groups
-    add-put-groups
-    mul-put-groups-2
-    shared-slice-read-put-groups
-    sub-put-groups-2
-    put-groups-requires-2
+    cast-put-gate
+    sub-put-gate
+    mul-put-gate
+    add-put-gate
+    mul-put-gate-2
+    shared-slice-read-put-gate
+    sub-put-gate-2
+    put-gate-requires
     add-code-2
     add-j
     loop-less

@@ -3,7 +3,11 @@ use borrow.Author.Needs.{needs}
 use Rattle.ordered.proofs.given.check.Statement.{statement}
 use Rattle.ordered.proofs.given.check.Tie as tie
 use denote.Ref.{now}
-use Rattle.ordered.proofs.Checks.{lent, counts-variables, counts-first, few-words, small, answers-1, answers-2, answers-4, answers-23, answers-fits}
+use mathlib.Core.Path.{sym, _∙_}
+use native.Mathlib.Omega.{arith}
+use Rattle.ordered.proofs.Exactly.{even-words}
+use Rattle.ordered.proofs.Checks.{lent, counts-variables, counts-first, few-words, none-in-order, small}
+use Rattle.ordered.proofs.Checks.{answers-1, answers-2, answers-4, answers-23, answers-fits}
 
 wide-requires : tie.Need-wide-requires
 wide-requires c κs = search needs
@@ -47,21 +51,6 @@ returns-2 c =
     let v = counts-variables w _ (wideAt .wide .ensures) in
     answers-2 w (a .asked .0) _ v _ (largeAt .is-too-large .ensures) (if1At .if1 .left) _ (unevenAt .is-uneven .ensures) (c .if2 .taken)
 
-mul-over : tie.Need-mul-over
-mul-over c = search needs
-
-add-over : tie.Need-add-over
-add-over c = search needs
-
-over-requires : tie.Need-over-requires
-over-requires c κs = search needs
-
-enum-known-large : tie.Need-enum-known-large
-enum-known-large c = search needs
-
-enum-told : tie.Need-enum-told
-enum-told c = search needs
-
 add-first-disordered : tie.Need-add-first-disordered
 add-first-disordered c = search needs
 
@@ -70,13 +59,35 @@ mul-first-disordered c = search needs
 
 first-disordered-requires : tie.Need-first-disordered-requires
 first-disordered-requires c κs =
-    let if1At = c .before .before .before .before .before .before in
+    let if1At = c .before .before .before in
     let largeAt = if1At .before in
     let wideAt = largeAt .before in
     let a = wideAt .before .before .before .before .before .args in
     let w = lent (a .o) (now (a .nexts)) (now (a .gates)) (now (a .sizes)) (now (a .roots)) in
     let v = counts-variables w _ (wideAt .wide .ensures) in
     few-words w _ (wideAt .wide .ensures) (small w (a .asked .0) _ v _ (largeAt .is-too-large .ensures) (if1At .if1 .left) .0)
+
+mul-over : tie.Need-mul-over
+mul-over c = search needs
+
+add-over : tie.Need-add-over
+add-over c = search needs
+
+over-requires : tie.Need-over-requires
+over-requires c κs =
+    let if2At = c .before in
+    let unevenAt = if2At .before in
+    let wideAt = unevenAt .before .before .before .before in
+    let a = wideAt .before .before .before .before .before .args in
+    let w = lent (a .o) (now (a .nexts)) (now (a .gates)) (now (a .sizes)) (now (a .roots)) in
+    let even = even-words w (sym (unevenAt .is-uneven .ensures) ∙ if2At .if2 .left) in
+    none-in-order _ _ (now (a .gates)) even (omega (arith, even)) (c .first-disordered .result) (c .first-disordered .ensures)
+
+enum-known-large : tie.Need-enum-known-large
+enum-known-large c = search needs
+
+enum-told : tie.Need-enum-told
+enum-told c = search needs
 
 enum-known-loose : tie.Need-enum-known-loose
 enum-known-loose c = search needs
@@ -88,7 +99,7 @@ returns-3 : tie.Need-returns-3
 returns-3 c =
     let codeAt = c .before in
     let overAt = codeAt .before .before in
-    let if2At = overAt .before in
+    let if2At = overAt .before .before in
     let unevenAt = if2At .before in
     let if1At = unevenAt .before .before in
     let largeAt = if1At .before in
@@ -102,10 +113,10 @@ returns-3 c =
 returns-4 : tie.Need-returns-4
 returns-4 c =
     let gateAt = c .before in
-    let disorderedAt = gateAt .before .before in
-    let toldAt = disorderedAt .before in
+    let toldAt = gateAt .before .before in
     let overAt = toldAt .before .before in
-    let if2At = overAt .before in
+    let disorderedAt = overAt .before in
+    let if2At = disorderedAt .before in
     let unevenAt = if2At .before in
     let if1At = unevenAt .before .before in
     let largeAt = if1At .before in
@@ -120,10 +131,10 @@ returns-4 c =
 
 returns-5 : tie.Need-returns-5
 returns-5 c =
-    let disorderedAt = c .before .before in
-    let toldAt = disorderedAt .before in
+    let toldAt = c .before .before in
     let overAt = toldAt .before .before in
-    let if2At = overAt .before in
+    let disorderedAt = overAt .before in
+    let if2At = disorderedAt .before in
     let unevenAt = if2At .before in
     let if1At = unevenAt .before .before in
     let largeAt = if1At .before in
@@ -147,14 +158,14 @@ check-spec =
     returns
     is-uneven-requires
     returns-2
+    add-first-disordered
+    mul-first-disordered
+    first-disordered-requires
     mul-over
     add-over
     over-requires
     enum-known-large
     enum-told
-    add-first-disordered
-    mul-first-disordered
-    first-disordered-requires
     enum-known-loose
     enum-told-2
     returns-3

@@ -6,8 +6,8 @@ use denote.Ref.{now}
 use mathlib.Core.Path.{_∙_}
 use Rattle.ordered.proofs.Checks.{in-gates, in-nexts, in-roots, in-asked, in-none}
 
-over-in-requires : tie.Need-over-in-requires
-over-in-requires c κs = search needs
+over-in-gates-requires : tie.Need-over-in-gates-requires
+over-in-gates-requires c κs = c .before .before .before .pre
 
 enum-told : tie.Need-enum-told
 enum-told c = search needs
@@ -17,13 +17,13 @@ returns c =
     let gatesAt = c .before .before in
     let a = gatesAt .before .before .before .before .args in
     c .enum-told .given .1
-    ∙ in-gates (a .bound) (now (a .gates)) (now (a .nexts)) (now (a .roots)) (a .asked .0) _ (gatesAt .over-in .ensures) _ (c .enum-told .given .1)
+    ∙ in-gates (a .bound) (now (a .gates)) (now (a .nexts)) (now (a .roots)) (a .asked .0) _ (gatesAt .over-in-gates .ensures) _ (c .enum-told .given .1)
 
 enum-told-2 : tie.Need-enum-told-2
 enum-told-2 c = search needs
 
-over-in-requires-2 : tie.Need-over-in-requires-2
-over-in-requires-2 c κs = search needs
+over-in-requires : tie.Need-over-in-requires
+over-in-requires c κs = search needs
 
 enum-told-3 : tie.Need-enum-told-3
 enum-told-3 c = search needs
@@ -35,14 +35,14 @@ returns-2 c =
     let gatesAt = gatesTold .before .before in
     let a = gatesAt .before .before .before .before .args in
     c .enum-told3 .given .1
-    ∙ in-nexts (a .bound) (now (a .gates)) (now (a .nexts)) (now (a .roots)) (a .asked .0) _ (gatesAt .over-in .ensures)
-    (gatesTold .enum-told2 .given .1) _ (nextsAt .over-in2 .ensures) _ (c .enum-told3 .given .1)
+    ∙ in-nexts (a .bound) (now (a .gates)) (now (a .nexts)) (now (a .roots)) (a .asked .0) _ (gatesAt .over-in-gates .ensures)
+    (gatesTold .enum-told2 .given .1) _ (nextsAt .over-in .ensures) _ (c .enum-told3 .given .1)
 
 enum-told-4 : tie.Need-enum-told-4
 enum-told-4 c = search needs
 
-over-in-requires-3 : tie.Need-over-in-requires-3
-over-in-requires-3 c κs = search needs
+over-in-requires-2 : tie.Need-over-in-requires-2
+over-in-requires-2 c κs = search needs
 
 enum-told-5 : tie.Need-enum-told-5
 enum-told-5 c = search needs
@@ -56,8 +56,8 @@ returns-3 c =
     let gatesAt = gatesTold .before .before in
     let a = gatesAt .before .before .before .before .args in
     c .enum-told5 .given .1
-    ∙ in-roots (a .bound) (now (a .gates)) (now (a .nexts)) (now (a .roots)) (a .asked .0) _ (gatesAt .over-in .ensures)
-    (gatesTold .enum-told2 .given .1) _ (nextsAt .over-in2 .ensures) (nextsTold .enum-told4 .given .1) _ (rootsAt .over-in3 .ensures) _
+    ∙ in-roots (a .bound) (now (a .gates)) (now (a .nexts)) (now (a .roots)) (a .asked .0) _ (gatesAt .over-in-gates .ensures)
+    (gatesTold .enum-told2 .given .1) _ (nextsAt .over-in .ensures) (nextsTold .enum-told4 .given .1) _ (rootsAt .over-in2 .ensures) _
     (c .enum-told5 .given .1)
 
 enum-told-6 : tie.Need-enum-told-6
@@ -80,8 +80,8 @@ returns-4 c =
     let gatesTold = nextsAt .before in
     let gatesAt = gatesTold .before .before in
     let a = gatesAt .before .before .before .before .args in
-    in-asked (a .bound) (now (a .gates)) (now (a .nexts)) (now (a .roots)) (a .asked .0) _ (gatesAt .over-in .ensures)
-    (gatesTold .enum-told2 .given .1) _ (nextsAt .over-in2 .ensures) (nextsTold .enum-told4 .given .1) _ (rootsAt .over-in3 .ensures)
+    in-asked (a .bound) (now (a .gates)) (now (a .nexts)) (now (a .roots)) (a .asked .0) _ (gatesAt .over-in-gates .ensures)
+    (gatesTold .enum-told2 .given .1) _ (nextsAt .over-in .ensures) (nextsTold .enum-told4 .given .1) _ (rootsAt .over-in2 .ensures)
     (rootsTold .enum-told6 .given .1) _ (wideAt .wide .ensures ∙ codeAt .code .ensures) (c .if1 .taken)
 
 returns-5 : tie.Need-returns-5
@@ -95,23 +95,23 @@ returns-5 c =
     let gatesTold = nextsAt .before in
     let gatesAt = gatesTold .before .before in
     let a = gatesAt .before .before .before .before .args in
-    in-none (a .bound) (now (a .gates)) (now (a .nexts)) (now (a .roots)) (a .asked .0) _ (gatesAt .over-in .ensures)
-    (gatesTold .enum-told2 .given .1) _ (nextsAt .over-in2 .ensures) (nextsTold .enum-told4 .given .1) _ (rootsAt .over-in3 .ensures)
+    in-none (a .bound) (now (a .gates)) (now (a .nexts)) (now (a .roots)) (a .asked .0) _ (gatesAt .over-in-gates .ensures)
+    (gatesTold .enum-told2 .given .1) _ (nextsAt .over-in .ensures) (nextsTold .enum-told4 .given .1) _ (rootsAt .over-in2 .ensures)
     (rootsTold .enum-told6 .given .1) _ (wideAt .wide .ensures ∙ codeAt .code .ensures) (c .if1 .left)
 
 pub over-spec : {M : Type 1} → statement M
 over-spec =
     tie.close
     (tie.spec
-    over-in-requires
+    over-in-gates-requires
     enum-told
     returns
     enum-told-2
-    over-in-requires-2
+    over-in-requires
     enum-told-3
     returns-2
     enum-told-4
-    over-in-requires-3
+    over-in-requires-2
     enum-told-5
     returns-3
     enum-told-6

@@ -37,16 +37,6 @@ fn differs(given: &Given, room: usize) -> ! {
     exit(1)
 }
 
-/// As many bytes as the file has, more, or fewer.
-fn room(random: &mut Random, given: &Given) -> usize {
-    let exact = if given.fault().is_some() { random.index(60) } else { given.bytes(given.top()).map_or(0, |bytes| bytes.len()) };
-    match random.below(20) {
-        0 => exact.saturating_sub(1),
-        1 => random.index(exact + 1),
-        _ => exact + random.index(3),
-    }
-}
-
 fn main() {
     let arguments: Vec<String> = std::env::args().skip(1).collect();
     let arguments: Vec<&str> = arguments.iter().map(String::as_str).collect();
@@ -60,7 +50,7 @@ fn main() {
             let mut random = Random(number(seed));
             for _ in 0..number(count) {
                 let given = write_kinds::any(&mut random, number(gates));
-                let room = room(&mut random, &given);
+                let room = write_kinds::room(&mut random, &given);
                 tally.compare(&given, room);
             }
         }

@@ -69,7 +69,7 @@ count-few : (v : ℕ) → v < 10000000 → length (countBytes v) ≤ 8
 unfolding countBytes digitsOf
 count-few v h = omega (arith, digits-below 6 19 v h)
 
-delta-few : (d : ℕ) → d < 2097152 → length (shortest d) ≤ 3
+pub delta-few : (d : ℕ) → d < 2097152 → length (shortest d) ≤ 3
 unfolding shortest
 delta-few d h = groups-below 2 7 d h
 
