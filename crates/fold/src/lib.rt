@@ -41,19 +41,19 @@ impl Pair {
         let smaller = self.smaller;
         let hi = larger.code();
         let lo = smaller.code();
-        // 1: either is 0, gives 0
+        // row 1: either is 0, gives 0
         if hi == 0 || lo == 0 {
             return Already::Code(Lit::from_code(0));
         }
-        // 2: the larger is 1, gives the smaller
+        // row 2: the larger is 1, gives the smaller
         if hi == 1 {
             return Already::Code(smaller);
         }
-        // 3: both are equal, gives the smaller
+        // row 3: both are equal, gives the smaller
         if hi == lo {
             return Already::Code(smaller);
         }
-        // 4: the smaller is 1, gives the larger
+        // row 4: the smaller is 1, gives the larger
         if lo == 1 {
             return Already::Code(larger);
         }
