@@ -33,7 +33,7 @@ impl Pair {
         }
     }
 
-    // What folding makes of the gate.
+    // What folding makes of the gate: the first of four rows that fits it.
     fn folded(self) -> Already
         ensures { λ r. ⌜ r ≡ alreadyOf (circuit-walk.folded (self .larger .0) (self .smaller .0)) ⌝ }
     {
@@ -41,15 +41,23 @@ impl Pair {
         let smaller = self.smaller;
         let hi = larger.code();
         let lo = smaller.code();
+        // row 1: either is 0, gives 0
         if hi == 0 || lo == 0 {
             return Already::Code(Lit::from_code(0));
         }
-        if hi == 1 || hi == lo {
+        // row 2: the larger is 1, gives the smaller
+        if hi == 1 {
             return Already::Code(smaller);
         }
+        // row 3: both are equal, gives the smaller
+        if hi == lo {
+            return Already::Code(smaller);
+        }
+        // row 4: the smaller is 1, gives the larger
         if lo == 1 {
             return Already::Code(larger);
         }
+        // no row: the gate stays
         Already::New
     }
 

@@ -1,8 +1,9 @@
--- `Pair::folded`: each return is a row of the definition, tested in its order. Assumes nothing.
+-- `Pair::folded`: each return is a row, and no row that stands before it fits. Assumes nothing.
 use borrow.Author.Needs.{needs}
 use Rattle.fold.proofs.Pair.folded.Statement.{statement}
 use Rattle.fold.proofs.Pair.folded.Tie as tie
 use Rattle.fold.proofs.Folds.{zero-larger, zero-smaller, one-larger, both-equal, one-smaller, no-row}
+use borrow.Author.Tests.{eq-eqb, ne-eqb}
 use mathlib.Core.Logic.{⊎-elim}
 use mathlib.Core.Path.{ap, _∙_}
 use Rattle.fold.specs.declared.Already.the-variants.{Code}
@@ -31,19 +32,16 @@ returns-2 c =
     let if1At = c .before .before in
     let code2At = if1At .before in
     let codeAt = code2At .before in
-    ⊎-elim (λ w. one-larger _ _ _ _ (codeAt .code .ensures) (code2At .code2 .ensures) (if1At .if1 .left) (c .before .if2 .left) (w .taken))
-    (λ w. both-equal _ _ _ _ (codeAt .code .ensures) (code2At .code2 .ensures) (if1At .if1 .left) (c .before .if2 .left) (w .0 .left) (w .1 .taken))
-    (c .if3 .came)
+    one-larger _ _ _ _ (codeAt .code .ensures) (code2At .code2 .ensures) (if1At .if1 .left) (c .before .if2 .left) (c .if3 .taken)
 
 returns-3 : tie.Need-returns-3
 returns-3 c =
-    let if3At = c .before .before in
-    let if2At = if3At .before in
+    let if2At = c .before .before in
     let if1At = if2At .before in
     let code2At = if1At .before in
     let codeAt = code2At .before in
-    one-smaller _ _ _ _ (codeAt .code .ensures) (code2At .code2 .ensures) (if1At .if1 .left) (if2At .if2 .left) (if3At .if3 .left)
-    (c .before .if4 .left) (c .if5 .taken)
+    both-equal _ _ _ _ (codeAt .code .ensures) (code2At .code2 .ensures) (if1At .if1 .left) (if2At .if2 .left) (c .before .if3 .left)
+    (eq-eqb _ _ (c .if4 .taken))
 
 returns-4 : tie.Need-returns-4
 returns-4 c =
@@ -52,8 +50,18 @@ returns-4 c =
     let if1At = if2At .before in
     let code2At = if1At .before in
     let codeAt = code2At .before in
-    no-row _ _ _ _ (codeAt .code .ensures) (code2At .code2 .ensures) (if1At .if1 .left) (if2At .if2 .left) (if3At .if3 .left) (c .before .if4 .left)
-    (c .if5 .left)
+    one-smaller _ _ _ _ (codeAt .code .ensures) (code2At .code2 .ensures) (if1At .if1 .left) (if2At .if2 .left) (if3At .if3 .left)
+    (ne-eqb _ _ (c .before .if4 .left)) (c .if5 .taken)
+
+returns-5 : tie.Need-returns-5
+returns-5 c =
+    let if3At = c .before .before in
+    let if2At = if3At .before in
+    let if1At = if2At .before in
+    let code2At = if1At .before in
+    let codeAt = code2At .before in
+    no-row _ _ _ _ (codeAt .code .ensures) (code2At .code2 .ensures) (if1At .if1 .left) (if2At .if2 .left) (if3At .if3 .left)
+    (ne-eqb _ _ (c .before .if4 .left)) (c .if5 .left)
 
 pub folded-spec : {M : Type 1} → statement M
 folded-spec =
@@ -65,4 +73,5 @@ folded-spec =
     returns
     returns-2
     returns-3
-    returns-4)
+    returns-4
+    returns-5)
