@@ -167,14 +167,14 @@ module _ (N : Net) (ps : List Pair) (gates-are : N .graph .gates ≡ gatesFrom (
   again zero j e w i = (w, refl, subst (Itself w) (let z : j ≡ length ps = omega arith in z) i)
   again (suc n) j e w i =
       let h : j < length ps = omega arith in
-      let room : 2 * length (N .graph .gates) ≡ suc (2 * length (N .graph .gates) - 1) = omega (arith, many-gates) in
+      let room : stackRoom N ≡ suc (stackRoom N - 1) = omega (arith, many-gates) in
       let r = again n (suc j) (omega arith) (w′ w j h i) (next-itself w j h i) in
       let z : firstCode (sourceCount N) + 2 * j + 2 ≡ firstCode (sourceCount N) + 2 * suc j = omega arith in (
         r .0,
         ap (λ (k : ℕ). andThen (walk N k [] w (firstCode (sourceCount N) + 2 * j))
             (λ w₁. walkAll N (stackRoom N) (countFrom (firstCode (sourceCount N) + 2 * j + 2) n) w₁)) room
             ∙ ap (λ (o : Out). andThen o (λ w₁. walkAll N (stackRoom N) (countFrom (firstCode (sourceCount N) + 2 * j + 2) n) w₁))
-            (walked-new w j h i (2 * length (N .graph .gates) - 1))
+            (walked-new w j h i (stackRoom N - 1))
             ∙ ap (λ (t : ℕ). walkAll N (stackRoom N) (countFrom t n) (w′ w j h i)) z ∙ r .1,
         r .2,
       )

@@ -228,7 +228,8 @@ module _ (N : Net) (top : ℕ) (once : DefinedOnce (N .graph)) (sized : Sized N 
     unfolding seen
     seen-var i h = List·getD-map var seen i 0 ∙ ap var (getD-take (suc (length (N .graph .gates))) (path ++ (c ∷ [])) i 0 h)
 
-    next : (i j : ℕ) → i < stackRoom N → j < stackRoom N → var (nth path c i) ≡ var (nth path c j) → nth path c (suc i) ≡ nth path c (suc j)
+    next : (i j : ℕ) → i < 2 * length (N .graph .gates) → j < 2 * length (N .graph .gates) → var (nth path c i) ≡ var (nth path c j)
+        → nth path c (suc i) ≡ nth path c (suc j)
     next i j h k e =
         Nx-same N once w (nth path c i) (nth path c j) (nth path c (suc i)) (nth path c (suc j)) e (o .chain i (omega arith)) (o .chain j (omega arith))
 
@@ -243,7 +244,7 @@ module _ (N : Net) (top : ℕ) (once : DefinedOnce (N .graph)) (sized : Sized N 
     orbit-full : ⊥
     orbit-full = go (distinct-or (map var seen))
       where
-        met : (k : ℕ) × (0 < k) × (2 * k ≤ stackRoom N) × (nth path c k ≡ nth path c (2 * k)) → ⊥
+        met : (k : ℕ) × (0 < k) × (2 * k ≤ 2 * length (N .graph .gates)) × (nth path c k ≡ nth path c (2 * k)) → ⊥
         met r =
             all-tested (2 * r .0) (omega (arith, r .1)) (last-or (length path) (2 * r .0) (omega (arith, r .2)))
             (ap (nth path c) (let e : 2 * r .0 / 2 ≡ r .0 = omega arith in e) ∙ r .3)
