@@ -17,10 +17,10 @@
 #include <stdint.h>
 
 /* The version of this header and of the archive that belongs to it. */
-#define IMDAGLUZ_VERSION "0.3.2"
+#define IMDAGLUZ_VERSION "0.4.0"
 #define IMDAGLUZ_VERSION_MAJOR 0
-#define IMDAGLUZ_VERSION_MINOR 3
-#define IMDAGLUZ_VERSION_PATCH 2
+#define IMDAGLUZ_VERSION_MINOR 4
+#define IMDAGLUZ_VERSION_PATCH 0
 
 #ifdef __cplusplus
 extern "C" {
@@ -33,7 +33,8 @@ extern "C" {
 #define IMDAGLUZ_FILE_BYTES(variables, roots, sets) (76 + 8 * ((size_t)(variables) + (size_t)(roots) + (size_t)(sets)))
 
 /* Refusal numbers. 0 is success. imdagluz_delta gives 3 and 15 to 17, imdagluz_renumber 1 to 8, imdagluz_read_aig 1, 3, 10 to 12 and 15 to 21,
- * imdagluz_expand 1 to 3, imdagluz_write_aig 1 to 4 and 23. No function here gives 13 or 14, which are for a literal that a text file assigns, or 22. */
+ * imdagluz_expand 1 to 3, imdagluz_write_aig 1 to 4 and 23. No function here gives 13 or 14, which are for a literal that a text file assigns, or 22.
+ * 9 is withdrawn, and its number is not used again. */
 enum {
     IMDAGLUZ_TOO_BIG = 1,          /* V, I, L, G or R is over 1,048,575 */
     IMDAGLUZ_MISSHAPEN = 2,        /* counts, flags and lengths do not fit together */
@@ -43,7 +44,6 @@ enum {
     IMDAGLUZ_STATE_AGAIN = 6,      /* a latch's state is defined already, under either sign */
     IMDAGLUZ_UNDEFINED = 7,        /* a literal that is reached is not defined */
     IMDAGLUZ_CYCLE = 8,            /* a gate that is reached needs itself */
-    IMDAGLUZ_TOO_DEEP = 9,         /* no room on the walk's stack; proved never to be given */
     IMDAGLUZ_NO_NUMBER = 10,       /* no digit stands where a number begins */
     IMDAGLUZ_LEADING_ZERO = 11,    /* a number of two or more digits begins with 0 */
     IMDAGLUZ_NUMBER_OVER = 12,     /* a number is over its limit */
@@ -144,7 +144,7 @@ enum {
  *   6  the variable of a latch's state is that of the constant, an input, a gate's output or a state before it. The literal at fault is the first one
  *   7  a literal that the walk reaches is defined nowhere. The literal at fault is that literal, as it was used
  *   8  a gate that the walk reaches needs itself. The literal at fault is that at which the walk saw it, a literal of such a gate, as it was used
- * Of 7 and 8 it is the one that the walk meets first. IMDAGLUZ_TOO_DEEP is proved never to be given.
+ * Of 7 and 8 it is the one that the walk meets first; the scratch words hold every path, however deep, which is proved.
  * Every refusal but the first one leaves the literal at fault (0 for 1 to 3), 0 and 0 in answer. Refusals 1 to 4 leave the five other lists as they
  * were. Refusals 5 to 8 set the V+1 words of map to IMDAGLUZ_NO_IMAGE, and L words of next_images, R of root_images, 2G of gates_out and 3V+3+3G of
  * scratch to 0.

@@ -67,7 +67,6 @@ pub enum Refusal {
     StateAgain(u32),
     Undefined(u32),
     Cycle(u32),
-    TooDeep(u32),
 }
 
 fn refusal(number: u32, literal: u32) -> Refusal {
@@ -80,8 +79,7 @@ fn refusal(number: u32, literal: u32) -> Refusal {
         6 => Refusal::StateAgain(literal),
         7 => Refusal::Undefined(literal),
         8 => Refusal::Cycle(literal),
-        9 => Refusal::TooDeep(literal),
-        _ => unreachable!("the library answers 0 to 9"),
+        _ => unreachable!("the library answers 0 to 8"),
     }
 }
 

@@ -15,7 +15,7 @@ use Rattle.fold.specs.declared.Pair.{Pair}
 use Rattle.aig.specs.declared.stack.Frame.the-variants.{First, Second}
 use Rattle.aig.specs.declared.table.GateNumber.the-variants.{Number, Nothing}
 use Rattle.aig.specs.Table.{gateAt}
-use Rattle.aig.specs.Layout.{stackAt, stackOf}
+use Rattle.aig.specs.Layout.{stackAt, stackSize, stackOf}
 use Rattle.aig.specs.Trie.{linkAt, linked}
 use Rattle.aig.specs.Store.{largerAt, smallerAt, pairAt, withGate}
 use Rattle.aig.specs.Settle.{linkedIf}
@@ -35,7 +35,7 @@ module _ (t : List ℕ) (v i d : ℕ) (e : i ≡ v) (f : d ≡ getD t i 0) where
 -- the stack
 module _ (s : Shape) (ws : List ℕ) (i : ℕ) (h : i < 2 * s .gates) where
   at-stack : getD (stackOf s ws) i 0 ≡ getD ws (stackAt s + i) 0
-  at-stack = part-at (stackAt s) (2 * s .gates) ws i h
+  at-stack = part-at (stackAt s) (stackSize s) ws i (omega arith)
 
   pub is-first : (l : Lit) → getD ws (stackAt s + i) 0 % 2 ≡ 0 → l ≡ literal (getD ws (stackAt s + i) 0 / 2) → First l ≡ inWord (getD (stackOf s ws) i 0)
   unfolding inWord

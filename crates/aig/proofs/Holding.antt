@@ -22,7 +22,7 @@ use Rattle.fold.specs.declared.Pair.{Pair}
 use Rattle.aig.specs.declared.walk.Walk.{Walk}
 use Rattle.aig.specs.declared.walk.State.the-variants.{Return}
 use Rattle.aig.specs.Table.{Tabled}
-use Rattle.aig.specs.Layout.{linksAt, linksSize, stackAt, tableOf, linksOf, stackOf}
+use Rattle.aig.specs.Layout.{linksAt, linksSize, stackAt, stackSize, tableOf, linksOf, stackOf}
 use Rattle.aig.specs.Trie.{headOf, keyOf, keyBits, Trie, FreeAt, linked}
 use Rattle.aig.specs.declared.trie.Search.{Search}
 use Rattle.aig.specs.declared.trie.Search.the-variants.{Found, Free}
@@ -62,7 +62,7 @@ module _ (s : Shape) (made : List walk.Pair) (out scratch : List ℕ) (m : MadeI
     linked-table = take-set-le (s .vars) scratch (linksAt s + at) (length made + 1) (omega arith)
 
     pub linked-stack : stackOf s after ≡ stackOf s scratch
-    linked-stack = part-before (stackAt s) (2 * s .gates) scratch (linksAt s + at) (length made + 1) (omega arith)
+    linked-stack = part-before (stackAt s) (stackSize s) scratch (linksAt s + at) (length made + 1) (omega arith)
 
     linked-links : linksOf s after ≡ set (linksOf s scratch) at (suc (length made))
     linked-links =

@@ -10,7 +10,7 @@ use Rattle.lit.specs.Code.{var, literal}
 use Rattle.lit.specs.declared.Lit.{Lit}
 use Rattle.circuit.specs.declared.Refusal.{Refusal}
 use Rattle.circuit.specs.Walk.{Out, reached, stopped, andThen, stackRoom, walk, walkAll}
-use Rattle.circuit.proofs.Machine.{comesTo-start}
+use Rattle.circuit.proofs.Machine.{comesTo-start, start-runs}
 use Rattle.aig.specs.declared.shape.Shape.{Shape}
 use Rattle.aig.specs.declared.walk.Walk.{Walk}
 use Rattle.aig.specs.declared.walk.State.{State}
@@ -18,7 +18,7 @@ use Rattle.aig.specs.declared.walk.State.the-variants.{Transfer}
 use Rattle.ending.specs.declared.Walked.{Walked}
 use Rattle.ending.specs.declared.Walked.the-variants.{Reached, Stopped}
 use Rattle.aig.specs.Settle.{numbers}
-use Rattle.aig.specs.Going.{netOf, Going, Long}
+use Rattle.aig.specs.Going.{netOf, topOf, Going, Long}
 use Rattle.aig.specs.Turns.{Walking, Ended, Runs}
 use Rattle.aig.specs.Walks.{Waiting, Waits, AllInside, CanGoOn, GoesOn, CanWalk, Walks, outputsOf, everyFrom, turns}
 use Rattle.aig.proofs.Standing.{lists-long}
@@ -40,14 +40,14 @@ module _ {s : Shape} {sources gates : List ℕ} {o : Out} {made : ℕ} {c : ℕ}
               holds = w .holds;
               stacked = record { count = refl; words = refl };
               inside = h;
-              running = record { inv = w .inv; short = omega arith; stack = tt };
+              running = start-runs (netOf s sources gates) (topOf s) (w .ground .once) (w .ground .sized) (w .work) (w .inv) c;
               comes = comesTo-start (netOf s sources gates) (w .work) c;
             };
       }
 
-  goes-on : (v : Out) → v ≡ first → andThen v (λ w′. walkAll (netOf s sources gates) rest w′) ≡ o
+  goes-on : (v : Out) → v ≡ first → andThen v (λ w′. walkAll (netOf s sources gates) (stackRoom (netOf s sources gates)) rest w′) ≡ o
   unfolding walkAll
-  goes-on v e = ap (λ (x : Out). andThen x (λ w′. walkAll (netOf s sources gates) rest w′)) e ∙ w .comes
+  goes-on v e = ap (λ (x : Out). andThen x (λ w′. walkAll (netOf s sources gates) (stackRoom (netOf s sources gates)) rest w′)) e ∙ w .comes
 
   ends-in : (r : Walked) (images′ out′ scratch′ : List ℕ) → Ended s sources gates first r images′ out′ scratch′
       → Waits s sources gates o rest r images′ out′ scratch′

@@ -9,7 +9,7 @@ use native.Mathlib.Omega.{arith}
 use lib.ListN.{length, getD, take, drop, length-append, length-take, List·getD-eq-default}
 use lib.Seq.{getD-drop}
 use Rattle.circuit.specs.Graph.{In}
-use Rattle.circuit.specs.Walk.{Work, Out, walkAll}
+use Rattle.circuit.specs.Walk.{Work, Out, stackRoom, walkAll}
 use Rattle.circuit.specs.Circuit.{Circuit, net, gateOutputs, start, walked}
 use Rattle.circuit.specs.Outcome.{Lent, circuitOf, mapWords, pairWords, zeros}
 use Rattle.circuit.proofs.Lists.{In-cases, In-getD}
@@ -114,7 +114,7 @@ module _ {l : Lent} {map out scratch : List ℕ} (k : WalkReady l map out scratc
       all-left = omega (arith, gates-length (l .gates))
 
   abbrev last : Out
-  last = walkAll (net C) (walked C) first
+  last = walkAll (net C) (stackRoom (net C)) (walked C) first
 
   in-order : turns (C .trim) (l .gates) (l .nexts) (l .roots) ≡ walked C
   unfolding walked
@@ -127,7 +127,7 @@ module _ {l : Lent} {map out scratch : List ℕ} (k : WalkReady l map out scratc
         work = first;
         holds = holds;
         inv = subst⁻¹ (λ (t : ℕ). Inv (net C) t first) isTop (start-inv (net C) (C .top) (k .once) fits);
-        comes = ap (λ (cs : List ℕ). walkAll (net C) cs first) (append-nil _ ∙ in-order);
+        comes = ap (λ (cs : List ℕ). walkAll (net C) (stackRoom (net C)) cs first) (append-nil _ ∙ in-order);
       }
 
   outputs-low : (trim : Bool) (c : ℕ) → In c (cond trim [] (gateOutputs C)) → c ≤ 2 * C .top + 1

@@ -16,8 +16,8 @@ use Rattle.circuit.specs.declared.Refusal.{Refusal}
 use Rattle.circuit.specs.declared.Refusal.the-variants as R
 use Rattle.circuit.specs.Refusals.{refusalNumber}
 use Rattle.circuit.specs.Graph.{In}
-use Rattle.circuit.specs.Walk.{Work, Out, reached, walkAll}
-use Rattle.circuit.specs.Circuit.{Circuit, graph, net, codes, firstOver, firstAgain, definitions, start, walked, orRefuse, renumber}
+use Rattle.circuit.specs.Walk.{Work, Out, reached, stackRoom}
+use Rattle.circuit.specs.Circuit.{Circuit, net, codes, firstOver, firstAgain, definitions, walkWith, orRefuse, renumber}
 use Rattle.circuit.specs.Outcome.{Lent, outcomeOf, circuitOf, tooBig, misshapen, tooShort, orStop, conclusion, untouched, after, outcome}
 use Rattle.circuit.specs.Tested.{Tested}
 use Rattle.circuit.proofs.Settled.{settled-le}
@@ -41,7 +41,7 @@ module _ (l : Lent) where
   abbrev lasts-of : Out
   lasts-of =
       orRefuse (firstAgain (0 ∷ []) (definitions C)) R.Again
-      (orRefuse (firstAgain (0 ∷ map var (definitions C)) (C .states)) R.StateAgain (walkAll (net C) (walked C) (start (C .top) (graph C .sources))))
+      (orRefuse (firstAgain (0 ∷ map var (definitions C)) (C .states)) R.StateAgain (walkWith (stackRoom (net C)) C))
 
   pub failed : (why : Refusal) → passing l ≡ Failed why
       → outcomeOf (Refused why) (l .map) (l .nextImages) (l .rootImages) (l .gatesOut) (l .scratch) ≡ outcome l
@@ -90,4 +90,3 @@ module _ (l : Lent) where
     late (R.StateAgain d) k = refl
     late (R.Undefined d) k = refl
     late (R.Cycle d) k = refl
-    late (R.Deep d) k = refl

@@ -12,7 +12,7 @@ use Rattle.lit.specs.declared.Lit.{Lit}
 use Rattle.circuit.specs.Walk.{Out, reached}
 use Rattle.circuit.specs.Machine.{Frame, Machine, frameWord}
 use Rattle.circuit.proofs.Machine.{weight}
-use Rattle.circuit.specs.Invariant.{Running, comesTo}
+use Rattle.circuit.specs.Invariant.{Running, comesTo, InRoom}
 use Rattle.aig.specs.declared.shape.Shape.{Shape}
 use Rattle.aig.specs.declared.stack.Frame as entries
 use Rattle.aig.specs.declared.stack.Frame.the-variants as entry
@@ -69,7 +69,7 @@ module _ {s : Shape} {sources gates : List ℕ} {o : Out} {n : Walk} {map out sc
                         holds = t .holds;
                         inv = t .running .inv;
                         comes =
-                            ended (netOf s sources gates) (at []) o (reached (t .work)) (step-reached (netOf s sources gates) (t .work))
+                            ended (netOf s sources gates) (at []) (subst (λ (fs : List Frame). InRoom (comesTo (netOf s sources gates) (at fs))) z (t .running .inRoom)) o (reached (t .work)) (step-reached (netOf s sources gates) (t .work))
                             (ap (λ (fs : List Frame). comesTo (netOf s sources gates) (at fs)) (sym z) ∙ t .comes);
                       };
                 };

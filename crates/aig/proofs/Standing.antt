@@ -18,7 +18,7 @@ use Rattle.circuit.proofs.Words.{gates-length, stack-length, middle-words, path
 use Rattle.aig.specs.declared.shape.Shape.{Shape}
 use Rattle.aig.specs.declared.table.GateNumber.the-variants.{Number, Nothing}
 use Rattle.aig.specs.Table as table
-use Rattle.aig.specs.Layout.{linksAt, linksSize, stackAt, tableOf, linksOf, stackOf, Room}
+use Rattle.aig.specs.Layout.{linksAt, linksSize, stackAt, stackSize, tableOf, linksOf, stackOf, Room}
 use Rattle.aig.specs.Stack.{middleIs}
 use Rattle.aig.specs.Trie.{Trie}
 use Rattle.aig.specs.Going.{netOf, topOf, Ground, Holds, Stacked, Long}
@@ -106,10 +106,10 @@ module _ {s : Shape} {depth : ℕ} {fs : List Frame} {scratch : List ℕ} (st : 
       record {
         count = omega (arith, st .count);
         words =
-            ap (λ (l : List ℕ). take (depth + 1) l) (part-set (stackAt s) (2 * s .gates) scratch depth (frameWord f) h)
+            ap (λ (l : List ℕ). take (depth + 1) l) (part-set (stackAt s) (stackSize s) scratch depth (frameWord f) (omega arith))
             ∙ ap (λ (d : ℕ). take d (set (stackOf s scratch) depth (frameWord f))) (add-one depth)
             ∙ take-suc-set (stackOf s scratch) depth (frameWord f)
-            (omega (arith, part-length (stackAt s) (2 * s .gates) scratch (omega (arith, r .long))))
+            (omega (arith, part-length (stackAt s) (stackSize s) scratch (omega (arith, r .long))))
             ∙ ap (λ (l : List ℕ). l ++ (frameWord f ∷ [])) (st .words);
       }
 

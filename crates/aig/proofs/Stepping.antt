@@ -1,21 +1,19 @@
 -- What one step of the machine is in each case, as the code finds it; and that a step leaves a machine that runs and comes to the same. Assumes nothing.
-use Prim.Native.Nat.{ℕ, _<_, _≤_}
+use Prim.Native.Nat.{ℕ, _<_}
 use mathlib.Core.Path.{_≡_, refl, _∙_, subst}
 use mathlib.Core.Bool.{Bool, true, false}
 use mathlib.Core.Option.{none, some}
 use mathlib.Core.List.{List, [], _∷_}
-use lib.ListN.{length}
-use borrow.Author.Tests.{lt-ltb, le-ltb}
 use Rattle.lit.specs.Code.{var, literal}
 use Rattle.lit.specs.declared.Lit.{Lit}
 use Rattle.circuit.specs.declared.Image.the-variants.{Absent, Code}
-use Rattle.circuit.specs.declared.Refusal.the-variants.{Undefined, Cycle, Deep}
+use Rattle.circuit.specs.declared.Refusal.the-variants.{Undefined, Cycle}
 use Rattle.circuit.specs.Graph.{Gate, DefinedOnce, gateFor}
 use Rattle.circuit.specs.Map.{imageIn}
-use Rattle.circuit.specs.Walk.{Net, Work, Out, reached, stopped, isMiddle, look, stackRoom, settle}
+use Rattle.circuit.specs.Walk.{Net, Work, Out, reached, stopped, enter, isMiddle, look, settle}
 use Rattle.circuit.specs.Machine.{Frame, transfer, back, Machine, goes, ends, pathOf, stepLook, stepBack, stepAt, step}
 use Rattle.circuit.proofs.Machine.{Follows, weight, Goes, step-follows, step-runs}
-use Rattle.circuit.specs.Invariant.{Sized, Running, comesTo}
+use Rattle.circuit.specs.Invariant.{Sized, Running, comesTo, InRoom}
 
 -- about to walk c, with these frames and this work
 abbrev pub walking : List Frame → ℕ → Work → Machine
@@ -43,13 +41,13 @@ module _ (N : Net) (fs : List Frame) (c : ℕ) (w : Work) where
       step-undefined e = rw (gone, off, e)
 
       module _ (g : Gate) (isGate : gateFor (N .graph .gates) (var c) ≡ some g) where
-        pub step-deep : stackRoom N ≤ length fs → step N (walking fs c w) ≡ ends (stopped (Deep (literal c)))
-        unfolding step stepAt look stepLook
-        step-deep h = rw (gone, off, isGate, le-ltb (length fs) (stackRoom N) h)
+        pub looks-enter : look N (pathOf fs) w c ≡ enter g
+        unfolding look
+        looks-enter = rw (gone, off, isGate)
 
-        pub step-enter : length fs < stackRoom N → step N (walking fs c w) ≡ goes (walking (frame c false ∷ fs) (g .first) w)
+        pub step-enter : step N (walking fs c w) ≡ goes (walking (frame c false ∷ fs) (g .first) w)
         unfolding step stepAt look stepLook
-        step-enter h = rw (gone, off, isGate, lt-ltb (length fs) (stackRoom N) h)
+        step-enter = rw (gone, off, isGate)
 
   pub step-no-gate : (b : Bool) → gateFor (N .graph .gates) (var c) ≡ none → step N (returning (frame c b ∷ fs) w) ≡ ends (stopped (Undefined (literal c)))
   unfolding step stepAt stepBack
@@ -69,8 +67,8 @@ unfolding step stepAt
 step-reached N w = refl
 
 -- a step to an end is what the machine comes to
-pub ended : (N : Net) (m : Machine) (o out : Out) → step N m ≡ ends out → comesTo N m ≡ o → out ≡ o
-ended N m o out e c = subst (Follows N (comesTo N m)) e (step-follows N m) ∙ c
+pub ended : (N : Net) (m : Machine) → InRoom (comesTo N m) → (o out : Out) → step N m ≡ ends out → comesTo N m ≡ o → out ≡ o
+ended N m r o out e c = subst (Follows N (comesTo N m)) e (step-follows N m r) ∙ c
 
 -- a step onward
 module _ {N : Net} {top : ℕ} (once : DefinedOnce (N .graph)) (sized : Sized N top) {m m′ : Machine} (e : step N m ≡ goes m′) (r : Running N top m) where
@@ -81,4 +79,4 @@ module _ {N : Net} {top : ℕ} (once : DefinedOnce (N .graph)) (sized : Sized N 
   stepped-less = subst (Goes N top once sized m) e (step-runs N top once sized m r) .1
 
   pub stepped-comes : {o : Out} → comesTo N m ≡ o → comesTo N m′ ≡ o
-  stepped-comes c = subst (Follows N (comesTo N m)) e (step-follows N m) ∙ c
+  stepped-comes c = subst (Follows N (comesTo N m)) e (step-follows N m (r .inRoom)) ∙ c

@@ -13,8 +13,8 @@ use Rattle.circuit.specs.declared.Refusal.{Refusal}
 use Rattle.circuit.specs.declared.Refusal.the-variants as R
 use Rattle.circuit.specs.Graph.{Distinct, outVar, DefinedOnce}
 use Rattle.circuit.specs.Map.{noImage, store}
-use Rattle.circuit.specs.Walk.{Out, stopped, walkAll}
-use Rattle.circuit.specs.Circuit.{Circuit, graph, net, gateOutputs, firstAgain, definitions, storeFrom, start, walked, orRefuse, renumber}
+use Rattle.circuit.specs.Walk.{Out, stopped, stackRoom}
+use Rattle.circuit.specs.Circuit.{Circuit, graph, net, gateOutputs, firstAgain, definitions, storeFrom, start, walkWith, orRefuse, renumber}
 use Rattle.circuit.specs.Outcome.{Lent, circuitOf, mapWords, scratchWords, zeros, onto}
 use Rattle.circuit.proofs.Checks.{Apart, Again, once, againTest, map-append, map-outputs, parts-join}
 use Rattle.circuit.proofs.Words.{gates-length}
@@ -61,7 +61,7 @@ module _ {l : Lent} {words out scratch : List ℕ} (x : WalkIn l words out scrat
   n = mapWords D
 
   abbrev lasts : Out
-  lasts = walkAll (net D) (walked D) (start (D .top) (graph D .sources))
+  lasts = walkWith (stackRoom (net D)) D
 
   abbrev five : Option ℕ
   five = firstAgain (0 ∷ []) (definitions D)

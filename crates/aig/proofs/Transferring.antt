@@ -2,7 +2,6 @@
 -- nothing.
 use Prim.Native.Nat.{ℕ, _+_, _*_, _<_}
 use mathlib.Core.Path.{_≡_, sym, _∙_, ap}
-use mathlib.Core.Logic.{_≢_}
 use mathlib.Core.Bool.{true, false}
 use mathlib.Core.Option.{some}
 use mathlib.Core.List.{List, _∷_}
@@ -12,7 +11,7 @@ use Rattle.lit.specs.Code.{var, literal}
 use Rattle.lit.specs.declared.Lit.{Lit}
 use Rattle.circuit.specs.declared.Image.the-variants.{Absent, Code}
 use Rattle.circuit.specs.declared.Refusal.{Refusal}
-use Rattle.circuit.specs.declared.Refusal.the-variants.{Undefined, Cycle, Deep}
+use Rattle.circuit.specs.declared.Refusal.the-variants.{Undefined, Cycle}
 use Rattle.circuit.specs.Graph.{gateFor}
 use Rattle.circuit.specs.Map.{imageIn}
 use Rattle.circuit.specs.Walk.{Work, Out, stopped, isMiddle}
@@ -20,6 +19,7 @@ use Rattle.circuit.specs.Machine.{Frame, pathOf, Machine, goes, ends, step}
 use Rattle.circuit.specs.Outcome.{gatesOf}
 use Rattle.circuit.specs.Invariant.{Running, comesTo}
 use Rattle.circuit.specs.Claims.{gateAt}
+use Rattle.circuit.proofs.Machine.{enter-room}
 use Rattle.aig.specs.declared.shape.Shape.{Shape}
 use Rattle.aig.specs.declared.table.GateNumber.the-variants.{Number, Nothing}
 use Rattle.aig.specs.declared.stack.Frame.the-variants as entry
@@ -32,7 +32,7 @@ use Rattle.aig.specs.Stack.{wordOf, middleIs}
 use Rattle.aig.specs.Settle.{numbers}
 use Rattle.aig.specs.Going.{netOf, topOf, Ground, Holds, Stacked, machineOf, Inside, numbersOf, On, Halted, Going}
 use Rattle.aig.specs.Turns.{toGo, Onward}
-use Rattle.aig.proofs.Stepping.{walking, returning, frame, step-mapped, step-cycle, step-undefined, step-deep, step-enter, step-no-gate, step-first, ended, stepped-runs, stepped-less, stepped-comes}
+use Rattle.aig.proofs.Stepping.{walking, returning, frame, step-mapped, step-cycle, step-undefined, looks-enter, step-enter, step-no-gate, step-first, ended, stepped-runs, stepped-less, stepped-comes}
 use Rattle.aig.proofs.Weighing.{weigh-transfer, weigh-return, weigh-first}
 use Rattle.aig.proofs.Standing.{room-is, table-none, table-gate, first-inside, second-inside, lists-long, middle-is, stack-pushed, holds-pushed, frame-inside}
 
@@ -40,7 +40,7 @@ module _ {s : Shape} {sources gates : List ℕ} {o : Out} (g : Ground s sources 
   -- a step to a refusal
   pub halted : {made : ℕ} {map out scratch : List ℕ} (m : Machine) → Holds s gates made (m .work) map out scratch → Running (netOf s sources gates) (topOf s) m
       → comesTo (netOf s sources gates) m ≡ o → (why : Refusal) → step (netOf s sources gates) m ≡ ends (stopped why) → Halted s o (stopped why) map out scratch
-  halted m h r c why st = record { long = lists-long g h (r .inv); comes = ended (netOf s sources gates) m o (stopped why) st c }
+  halted m h r c why st = record { long = lists-long g h (r .inv); comes = ended (netOf s sources gates) m (r .inRoom) o (stopped why) st c }
 
   -- a step onward
   pub on : (state state′ : State) {map out scratch map′ out′ scratch′ : List ℕ} (k : On s sources gates o state map out scratch) (fs′ : List Frame) (w′ : Work)
@@ -112,47 +112,47 @@ module _ {s : Shape} {sources gates : List ℕ} {o : Out} {n : Walk} {l : Lit} {
         its-gate : gateFor (gatesOf gates) (var (l .0)) ≡ some (gateAt gates j)
         its-gate = table-gate g (t .holds) (var (l .0)) (t .inside) j e
 
-        pub transfer-deep : n .depth ≡ 2 * s .gates → After (Stopped (Deep l)) scratch
-        transfer-deep d =
-            stop (Deep l)
-            (step-deep (netOf s sources gates) (t .frames) (l .0) (t .work) (sym image-same ∙ gone) (sym middle-same ∙ off) (gateAt gates j) its-gate
-            (omega (arith, room-is g, t .stacked .count)))
+        -- there is room for one entry more
+        pub transfer-room : n .depth < 2 * s .gates
+        transfer-room =
+            let looks = looks-enter (netOf s sources gates) (t .frames) (l .0) (t .work) (sym image-same ∙ gone) (sym middle-same ∙ off) (gateAt gates j) its-gate in
+            omega (
+              arith,
+              room-is g,
+              t .stacked .count,
+              enter-room (netOf s sources gates) (t .frames) (t .work) (l .0) (gateAt gates j) looks (t .running .inRoom),
+            )
 
-        module _ (d : n .depth ≢ 2 * s .gates) where
-          abbrev ws : List ℕ
-          ws = set scratch (stackAt s + n .depth) (wordOf (entry.First l))
+        abbrev ws : List ℕ
+        ws = set scratch (stackAt s + n .depth) (wordOf (entry.First l))
 
-          below : n .depth < 2 * s .gates
-          below = omega (arith, room-is g, t .stacked .count, t .running .short)
+        entering : step (netOf s sources gates) here ≡ goes (walking (frame (l .0) false ∷ t .frames) (gateAt gates j .first) (t .work))
+        entering =
+            step-enter (netOf s sources gates) (t .frames) (l .0) (t .work) (sym image-same ∙ gone) (sym middle-same ∙ off) (gateAt gates j) its-gate
 
-          entering : step (netOf s sources gates) here ≡ goes (walking (frame (l .0) false ∷ t .frames) (gateAt gates j .first) (t .work))
-          entering =
-              step-enter (netOf s sources gates) (t .frames) (l .0) (t .work) (sym image-same ∙ gone) (sym middle-same ∙ off) (gateAt gates j) its-gate
-              (omega (arith, room-is g, t .stacked .count, below))
+        entered : Stacked s (n .depth + 1) (frame (l .0) false ∷ t .frames) ws
+        entered = stack-pushed (t .stacked) (frame (l .0) false) (t .holds .gatesMade .room) transfer-room
 
-          entered : Stacked s (n .depth + 1) (frame (l .0) false ∷ t .frames) ws
-          entered = stack-pushed (t .stacked) (frame (l .0) false) (t .holds .gatesMade .room) below
-
-          pub transfer-enter : After (Transfer (numbers (n .depth + 1) (n .made)) (literal (gateAt gates j .first))) ws
-          transfer-enter =
-              let n′ : Walk = numbers (n .depth + 1) (n .made) in
-              let h : Holds s gates (n .made) (t .work) map out ws = holds-pushed (t .holds) (n .depth) (wordOf (entry.First l)) in
-              record {
-                going =
-                    record {
-                      ground = g;
-                      goes =
-                          on g (Transfer n l) (Transfer n′ (literal (gateAt gates j .first))) t (frame (l .0) false ∷ t .frames) (t .work) entering h entered
-                          (first-inside g (t .holds) (var (l .0)) (t .inside) j e);
-                    };
-                less =
-                    omega (
-                      arith,
-                      weigh-transfer sources n (t .holds) (t .stacked) l,
-                      weigh-transfer sources n′ h entered (literal (gateAt gates j .first)),
-                      stepped-less (g .once) (g .sized) entering (t .running),
-                    );
-              }
+        pub transfer-enter : After (Transfer (numbers (n .depth + 1) (n .made)) (literal (gateAt gates j .first))) ws
+        transfer-enter =
+            let n′ : Walk = numbers (n .depth + 1) (n .made) in
+            let h : Holds s gates (n .made) (t .work) map out ws = holds-pushed (t .holds) (n .depth) (wordOf (entry.First l)) in
+            record {
+              going =
+                  record {
+                    ground = g;
+                    goes =
+                        on g (Transfer n l) (Transfer n′ (literal (gateAt gates j .first))) t (frame (l .0) false ∷ t .frames) (t .work) entering h entered
+                        (first-inside g (t .holds) (var (l .0)) (t .inside) j e);
+                  };
+              less =
+                  omega (
+                    arith,
+                    weigh-transfer sources n (t .holds) (t .stacked) l,
+                    weigh-transfer sources n′ h entered (literal (gateAt gates j .first)),
+                    stepped-less (g .once) (g .sized) entering (t .running),
+                  );
+            }
 
 module _ {s : Shape} {sources gates : List ℕ} {o : Out} {n : Walk} {l : Lit} {map out scratch : List ℕ}
     (k : Going s sources gates o (First n l) map out scratch) where

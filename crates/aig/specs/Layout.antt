@@ -18,9 +18,12 @@ linksAt s = s .vars
 abbrev pub linksSize : Shape → ℕ
 linksSize s = 2 * s .vars + s .gates
 
--- and last the stack
+-- and last the stack, two entries for each gate
 abbrev pub stackAt : Shape → ℕ
 stackAt s = 3 * s .vars + s .gates
+
+abbrev pub stackSize : Shape → ℕ
+stackSize s = 2 * s .gates
 
 -- the definitions table
 abbrev pub tableOf : Shape → List ℕ → List ℕ
@@ -30,9 +33,9 @@ tableOf s ws = take (s .vars) ws
 abbrev pub linksOf : Shape → List ℕ → List ℕ
 linksOf s ws = part (linksAt s) (linksSize s) ws
 
--- two entries for each gate
+-- the stack's words
 abbrev pub stackOf : Shape → List ℕ → List ℕ
-stackOf s ws = part (stackAt s) (2 * s .gates) ws
+stackOf s ws = part (stackAt s) (stackSize s) ws
 
 -- the sizes are those that the checks leave; gates are fewer than variables, the constant being one; and the scratch words are as many as the parts have
 pub record Room (s : Shape) (scratch : List ℕ) : Type 0 where

@@ -5,7 +5,7 @@ use mathlib.Core.Bool.{Bool, cond}
 use mathlib.Core.List.{List, [], _∷_, _++_, map}
 use lib.ListN.{length, getD}
 use Rattle.lit.specs.Code.{var}
-use Rattle.circuit.specs.Walk.{Work, Out, stopped, walkAll}
+use Rattle.circuit.specs.Walk.{Work, Out, stopped, stackRoom, walkAll}
 use Rattle.circuit.specs.Outcome.{gatesOf}
 use Rattle.circuit.specs.Invariant.{Inv}
 use Rattle.aig.specs.declared.shape.Shape.{Shape}
@@ -19,7 +19,7 @@ pub record Waiting (s : Shape) (sources gates : List ℕ) (o : Out) (made : ℕ)
   pub work : Work
   pub holds : Holds s gates made work images out scratch
   pub inv : Inv (netOf s sources gates) (topOf s) work
-  pub comes : walkAll (netOf s sources gates) cs work ≡ o
+  pub comes : walkAll (netOf s sources gates) (stackRoom (netOf s sources gates)) cs work ≡ o
 
 -- so it is after a walk that went well; else all comes to its refusal
 abbrev pub Waits : Shape → List ℕ → List ℕ → Out → List ℕ → Walked → List ℕ → List ℕ → List ℕ → Type 0

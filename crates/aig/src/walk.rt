@@ -107,9 +107,6 @@ impl Walk {
         let GateNumber::Number(k) = number else {
             return State::Stopped(Refusal::Undefined(lit));
         };
-        if self.depth == 2 * shape.gates {
-            return State::Stopped(Refusal::Deep(lit));
-        }
         stack::push(scratch, shape, self.depth, Frame::First(lit));
         State::Transfer(self.deeper(), flat::first_of(gates, k))
     }

@@ -16,7 +16,7 @@ use Rattle.lit.specs.Code.{literal}
 use Rattle.circuit.specs.declared.CircuitRecord.{CircuitRecord}
 use Rattle.circuit.specs.declared.Refusal.{Refusal}
 use Rattle.circuit.specs.declared.Refusal.the-variants as Refusals
-use Rattle.circuit.specs.declared.Refusal.the-variants.{TooBig, Misshapen, Short, Over, StateAgain, Undefined, Cycle, Deep}
+use Rattle.circuit.specs.declared.Refusal.the-variants.{TooBig, Misshapen, Short, Over, StateAgain, Undefined, Cycle}
 use Rattle.circuit.specs.Refusals.{refusalNumber}
 use Rattle.circuit.specs.Walk.{Out, reached, stopped}
 use Rattle.circuit.specs.Circuit.{Circuit, gateCodes, latchCodes, codes, firstOver, renumber}
@@ -64,7 +64,6 @@ module _ (l : Lent) (flat : List ℕ) (p : Tested l) where
   late (StateAgain d) k = refl
   late (Undefined d) k = refl
   late (Cycle d) k = refl
-  late (Deep d) k = refl
 
   answered-late : (r : Refusal) (b : Bool) → leb (refusalNumber r) 4 ≡ b → b ≡ false
       → flatAfter l ((cond b (untouched l r) (cleared l (circuitOf l) r)) .answer) flat ≡ onto (zeros (length (l .gates))) flat

@@ -7,7 +7,7 @@ use mathlib.Core.List.{List, [], _∷_, _++_}
 use lib.ListN.{replicate}
 use Rattle.lit.specs.Code.{isOdd, variable, literal, flipped}
 use Rattle.circuit.specs.declared.CircuitRecord.{CircuitRecord}
-use Rattle.circuit.specs.declared.Refusal.the-variants.{TooBig, Deep}
+use Rattle.circuit.specs.declared.Refusal.the-variants.{TooBig, Cycle}
 use Rattle.circuit.specs.declared.Answer.the-variants.{Renumbered, Refused}
 use Rattle.circuit.specs.Map.{entryImage, imageIn, store, codeOf}
 use Rattle.circuit.specs.Walk.{firstCode, nextCode, folded, already, settleAs, settleOn, settle, look, throughInputs, walk, walkAll}
@@ -226,6 +226,6 @@ pub words-pinned :
     × (answerNumber (Renumbered (record { made = 5; top = variable 10 })) ≡ 0)
     × (answerWords (Renumbered (record { made = 5; top = variable 10 })) ≡ 0 ∷ 5 ∷ 10 ∷ [])
     × (answerNumber (Refused TooBig) ≡ 1) × (answerWords (Refused TooBig) ≡ 0 ∷ 0 ∷ 0 ∷ [])
-    × (answerNumber (Refused (Deep (literal 18))) ≡ 9) × (answerWords (Refused (Deep (literal 18))) ≡ 18 ∷ 0 ∷ 0 ∷ [])
+    × (answerNumber (Refused (Cycle (literal 18))) ≡ 8) × (answerWords (Refused (Cycle (literal 18))) ≡ 18 ∷ 0 ∷ 0 ∷ [])
 unfolding misgiven firstNumber firstWords
 words-pinned = (refl, refl, refl, refl, refl, refl, refl, refl, refl, refl, refl, refl, refl, refl, refl, refl, refl, refl)

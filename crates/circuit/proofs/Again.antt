@@ -14,10 +14,9 @@ use lib.Seq.{take-suc}
 use Rattle.lit.specs.Code.{var, literal, flipped}
 use Rattle.circuit.specs.declared.Image.{Image}
 use Rattle.circuit.specs.declared.Image.the-variants.{Absent, Code}
-use Rattle.circuit.specs.declared.Refusal.the-variants.{Deep}
 use Rattle.circuit.specs.Graph.{Gate, outVar, gateFor}
 use Rattle.circuit.specs.Map.{noImage, imageIn, codeOf, store}
-use Rattle.circuit.specs.Walk.{Net, sourceCount, Pair, Work, Out, reached, stopped, firstCode, nextCode, already, settleAs, settleOn, settle, look, lookAt, isMiddle, answer, andThen, throughInputs, walk, stackRoom, walkAll}
+use Rattle.circuit.specs.Walk.{Net, sourceCount, Pair, Work, Out, reached, firstCode, nextCode, already, settleAs, settleOn, settle, look, lookAt, isMiddle, answer, andThen, throughInputs, noRoom, walk, stackRoom, walkAll}
 use Rattle.circuit.specs.Ordered.{noPair, InOrder, gatesFrom, countFrom}
 use Rattle.circuit.proofs.Tests.{Same, same, other, sameTest, lt-or}
 use Rattle.circuit.proofs.Map.{entry-same, entry-other, code-image, no-image}
@@ -51,7 +50,7 @@ find-gate k (p ∷ ps) j h = go j h (eqb (2 * k / 2) (k + j)) (sameTest (2 * k /
 walk-mapped : (N : Net) (room : ℕ) (path : List ℕ) (w : Work) (c t : ℕ) → imageIn (w .images) c ≡ Code (literal t) → walk N room path w c ≡ reached w
 unfolding walk look
 walk-mapped N zero path w c t e =
-    ap (λ (x : Image). answer (lookAt c x (isMiddle path c) (gateFor (N .graph .gates) (var c))) w (λ g. stopped (Deep (literal c)))) e
+    ap (λ (x : Image). answer (lookAt c x (isMiddle path c) (gateFor (N .graph .gates) (var c))) w (λ g. noRoom)) e
 walk-mapped N (suc room) path w c t e =
     ap (λ (x : Image). answer (lookAt c x (isMiddle path c) (gateFor (N .graph .gates) (var c))) w
     (λ g. throughInputs N (λ w′ c′. walk N room (path ++ (c ∷ [])) w′ c′) g w)) e
@@ -163,19 +162,19 @@ module _ (N : Net) (ps : List Pair) (gates-are : N .graph .gates ≡ gatesFrom (
 
   -- the walk of the outputs from the j-th on
   pub again : (n j : ℕ) → j + n ≡ length ps → (w : Work) → Itself w j
-      → (w′ : Work) × (walkAll N (countFrom (firstCode (sourceCount N) + 2 * j) n) w ≡ reached w′) × Itself w′ (length ps)
+      → (w′ : Work) × (walkAll N (stackRoom N) (countFrom (firstCode (sourceCount N) + 2 * j) n) w ≡ reached w′) × Itself w′ (length ps)
   unfolding walkAll
   again zero j e w i = (w, refl, subst (Itself w) (let z : j ≡ length ps = omega arith in z) i)
   again (suc n) j e w i =
       let h : j < length ps = omega arith in
-      let room : 2 * length (N .graph .gates) ≡ suc (2 * length (N .graph .gates) - 1) = omega (arith, many-gates) in
+      let room : stackRoom N ≡ suc (stackRoom N - 1) = omega (arith, many-gates) in
       let r = again n (suc j) (omega arith) (w′ w j h i) (next-itself w j h i) in
       let z : firstCode (sourceCount N) + 2 * j + 2 ≡ firstCode (sourceCount N) + 2 * suc j = omega arith in (
         r .0,
         ap (λ (k : ℕ). andThen (walk N k [] w (firstCode (sourceCount N) + 2 * j))
-            (λ w₁. walkAll N (countFrom (firstCode (sourceCount N) + 2 * j + 2) n) w₁)) room
-            ∙ ap (λ (o : Out). andThen o (λ w₁. walkAll N (countFrom (firstCode (sourceCount N) + 2 * j + 2) n) w₁))
-            (walked-new w j h i (2 * length (N .graph .gates) - 1))
-            ∙ ap (λ (t : ℕ). walkAll N (countFrom t n) (w′ w j h i)) z ∙ r .1,
+            (λ w₁. walkAll N (stackRoom N) (countFrom (firstCode (sourceCount N) + 2 * j + 2) n) w₁)) room
+            ∙ ap (λ (o : Out). andThen o (λ w₁. walkAll N (stackRoom N) (countFrom (firstCode (sourceCount N) + 2 * j + 2) n) w₁))
+            (walked-new w j h i (stackRoom N - 1))
+            ∙ ap (λ (t : ℕ). walkAll N (stackRoom N) (countFrom t n) (w′ w j h i)) z ∙ r .1,
         r .2,
       )

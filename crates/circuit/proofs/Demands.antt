@@ -6,12 +6,12 @@ pub use Rattle.circuit.proofs.Examples.{examples, lookups, numbers}
 pub use Rattle.circuit.proofs.Pins.{pins, limits-pinned, fields-pinned, ordered-pinned, order-pinned, members-pinned, words-pinned, givens-pinned}
 pub use Rattle.circuit.proofs.Improvements.{improvements}
 pub use Rattle.circuit.proofs.Told.{told}
+pub use Rattle.circuit.proofs.Deepest.{as-deep-as-can-be}
 use Prim.Native.Nat.{ℕ, _≤_}
 use mathlib.Core.Path.{_≡_, sym, _∙_, subst⁻¹}
 use mathlib.Core.Logic.{_↔_}
 use mathlib.Core.Bool.{Bool, false}
 use mathlib.Core.Option.{some}
-use Rattle.circuit.specs.declared.Refusal.the-variants.{Deep}
 use Rattle.circuit.specs.declared.Summary.{Summary}
 use Rattle.circuit.specs.declared.Answer.the-variants.{Renumbered}
 use Rattle.circuit.specs.Graph.{In, Graph, DefinedOnce, Means}
@@ -21,7 +21,7 @@ use Rattle.circuit.specs.Ordered.{Ordered, sourcesOf, orderedGraph, InOr
 use Rattle.circuit.specs.Outcome.{Lent, Outcome, circuitOf, tooBig, misshapen, tooShort, outcome, held}
 use Rattle.circuit.specs.Claims.{Within, Agrees, Roomy, Passes, SameValue, Folds, Holds, IsLent, IsWalked}
 use Rattle.circuit.specs.Tested.{Tested}
-use Rattle.circuit.specs.Demands.{Demands, AfterSuccess}
+use Rattle.circuit.specs.Demands.{Demands, AfterSuccess, NeverTooDeep}
 use Rattle.circuit.proofs.Meaning.{means-one}
 use Rattle.circuit.proofs.Rows.{rows-exactly}
 use Rattle.circuit.proofs.Listed as L
@@ -30,6 +30,7 @@ use Rattle.circuit.proofs.Outcome as O
 use Rattle.circuit.proofs.Lengths.{keeps-past}
 use Rattle.circuit.proofs.Refusing as R
 use Rattle.circuit.proofs.Cells as K
+use Rattle.circuit.proofs.Room as D
 use Rattle.circuit.proofs.Success as S
 
 -- any two outcomes that a contract of this form allows are equal
@@ -106,9 +107,13 @@ module _ (l : Lent) where
       record {
         succeedsExactly = λ p. exactly l (R.tested l p);
         refusalsTrue = R.refusals-true l;
-        neverNine = λ d e. R.refusals-true l (Deep d) e;
         earlyRefusalsKeep = R.early l;
         lateRefusalsClear = R.late l;
         pastKept = keeps-past l;
         success = after-success;
       }
+
+  -- where no variable is defined twice, the walk of what passes checks 1 to 4 is never too deep: with two entries a gate it ends first, by success, 7 or 8, and
+  -- any more room gives the same
+  pub never-too-deep : Passes l → DefinedOnce (graph C) → NeverTooDeep C
+  never-too-deep p once = let t = R.tested l p in D.never-too-deep C (O.limits l (t .fits)) (O.bounds l t) once

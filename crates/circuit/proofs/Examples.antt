@@ -8,7 +8,7 @@ use lib.ListN.{replicate}
 use Rattle.lit.specs.Code.{literal, variable, flipped}
 use Rattle.circuit.specs.declared.Answer.the-variants.{Renumbered}
 use Rattle.circuit.specs.declared.Image.the-variants.{Absent, Code}
-use Rattle.circuit.specs.declared.Refusal.the-variants.{TooBig, Misshapen, Short, Over, Again, StateAgain, Undefined, Cycle, Deep}
+use Rattle.circuit.specs.declared.Refusal.the-variants.{TooBig, Misshapen, Short, Over, Again, StateAgain, Undefined, Cycle}
 use Rattle.circuit.specs.Refusals.{refusalNumber, refusalLiteral}
 use Rattle.circuit.specs.Map.{entryImage, imageIn, imageOf, store, codeOf}
 use Rattle.circuit.specs.Walk.{firstCode, nextCode, folded, already, settleAs, settleOn, settle, look, throughInputs, walk, walkAll}
@@ -136,11 +136,9 @@ lookups = (refl, refl, refl, refl, refl, refl)
 -- document 01's numbers, and the literal beside each
 pub numbers :
     (map refusalNumber
-    (TooBig ∷ Misshapen ∷ Short ∷ Over (literal 9) ∷ Again (literal 9) ∷ StateAgain (literal 9) ∷ Undefined (literal 9) ∷ Cycle (literal 9) ∷ Deep
-    (literal 9) ∷ [])
-    ≡ (1 ∷ 2 ∷ 3 ∷ 4 ∷ 5 ∷ 6 ∷ 7 ∷ 8 ∷ 9 ∷ []))
+    (TooBig ∷ Misshapen ∷ Short ∷ Over (literal 9) ∷ Again (literal 9) ∷ StateAgain (literal 9) ∷ Undefined (literal 9) ∷ Cycle (literal 9) ∷ [])
+    ≡ (1 ∷ 2 ∷ 3 ∷ 4 ∷ 5 ∷ 6 ∷ 7 ∷ 8 ∷ []))
     × (map (λ r. refusalLiteral r .0)
-    (TooBig ∷ Misshapen ∷ Short ∷ Over (literal 9) ∷ Again (literal 9) ∷ StateAgain (literal 9) ∷ Undefined (literal 9) ∷ Cycle (literal 9) ∷ Deep
-    (literal 9) ∷ [])
-    ≡ (0 ∷ 0 ∷ 0 ∷ 9 ∷ 9 ∷ 9 ∷ 9 ∷ 9 ∷ 9 ∷ []))
+    (TooBig ∷ Misshapen ∷ Short ∷ Over (literal 9) ∷ Again (literal 9) ∷ StateAgain (literal 9) ∷ Undefined (literal 9) ∷ Cycle (literal 9) ∷ [])
+    ≡ (0 ∷ 0 ∷ 0 ∷ 9 ∷ 9 ∷ 9 ∷ 9 ∷ 9 ∷ []))
 numbers = (refl, refl)

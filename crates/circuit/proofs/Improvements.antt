@@ -8,10 +8,10 @@ use mathlib.Core.List.{List, [], _∷_, _++_, map}
 use lib.Dec.{eqb}
 use lib.ListN.{getD, take, drop}
 use Rattle.lit.specs.Code.{var, literal, flipped}
-use Rattle.circuit.specs.declared.Refusal.the-variants.{Cycle, Deep}
+use Rattle.circuit.specs.declared.Refusal.the-variants.{Cycle}
 use Rattle.circuit.specs.Graph.{Gate, gateFor}
 use Rattle.circuit.specs.Map.{entryImage, imageIn, store, codeOf}
-use Rattle.circuit.specs.Walk.{Net, sourceCount, Pair, Work, firstCode, nextCode, folded, orElse, madeIf, already, settleAs, settleOn, settle, Out, reached, stopped, Look, mapped, refused, enter, isMiddle, lookAt, look, andThen, throughInputs, answer, walk, stackRoom, walkAll}
+use Rattle.circuit.specs.Walk.{Net, sourceCount, Pair, Work, firstCode, nextCode, folded, orElse, madeIf, already, settleAs, settleOn, settle, Out, reached, stopped, Look, mapped, refused, enter, isMiddle, lookAt, look, andThen, throughInputs, answer, noRoom, walk, stackRoom, walkAll}
 use Rattle.circuit.specs.Circuit.{Circuit, graph, net, gateOutputs, codes, elem, start, walked, renumber}
 use Rattle.circuit.specs.Ordered.{imagesIn}
 use Rattle.circuit.specs.Outcome.{Lent, circuitOf, pairWords, tooBig, misshapen, tooShort, conclusion}
@@ -48,7 +48,7 @@ abbrev lookBy : Habits → Net → List ℕ → Work → ℕ → Look
 lookBy h N path w c = lookAt c (imageIn (w .images) c) (h .cycle path c) (gateFor (N .graph .gates) (var c))
 
 abbrev walkBy : Habits → Net → ℕ → List ℕ → Work → ℕ → Out
-walkBy h N zero path w c = answer (lookBy h N path w c) w (λ g. stopped (Deep (literal c)))
+walkBy h N zero path w c = answer (lookBy h N path w c) w (λ g. noRoom)
 walkBy h N (suc room) path w c = answer (lookBy h N path w c) w (λ g. throughBy h N (λ w′ c′. walkBy h N room (path ++ (c ∷ [])) w′ c′) g w)
 
 abbrev walkAllBy : Habits → Net → List ℕ → Work → Out
@@ -74,7 +74,7 @@ ours-walk N (suc room) path w c =
     then-same _ _ _ _ (ours-walk N room (path ++ (c ∷ [])) w (g .first))
     (λ w₁. then-same _ _ _ _ (ours-walk N room (path ++ (c ∷ [])) w₁ (g .second)) (λ w₂. refl)))
 
-pub ours-walkAll : (N : Net) (cs : List ℕ) (w : Work) → walkAllBy ours N cs w ≡ walkAll N cs w
+pub ours-walkAll : (N : Net) (cs : List ℕ) (w : Work) → walkAllBy ours N cs w ≡ walkAll N (stackRoom N) cs w
 unfolding walkAll
 ours-walkAll N [] w = refl
 ours-walkAll N (c ∷ cs) w = then-same _ _ _ _ (ours-walk N (stackRoom N) [] w c) (λ w₁. ours-walkAll N cs w₁)
@@ -103,7 +103,8 @@ justiceFirst C =
     ++ (take before (C .roots) ++ (drop (before + fairness) (C .roots) ++ take fairness (drop before (C .roots)))))
 
 abbrev renumberJusticeFirst : Lent → Out
-renumberJusticeFirst l = walkAll (net (circuitOf l)) (justiceFirst (circuitOf l)) (start (circuitOf l .top) (graph (circuitOf l) .sources))
+renumberJusticeFirst l =
+    walkAll (net (circuitOf l)) (stackRoom (net (circuitOf l))) (justiceFirst (circuitOf l)) (start (circuitOf l .top) (graph (circuitOf l) .sources))
 
 -- dropping gates that folding left unused: of the gates from code t on, those that a literal of the list or a gate kept uses
 abbrev kept : ℕ → List Pair → List ℕ → List Pair

@@ -6,7 +6,7 @@ use mathlib.Core.List.{List, _++_}
 use native.Mathlib.Omega.{arith}
 use lib.ListN.{length, replicate, length-append, length-map, length-replicate, getD-replicate}
 use Rattle.circuit.specs.declared.Refusal.{Refusal}
-use Rattle.circuit.specs.declared.Refusal.the-variants.{TooBig, Misshapen, Short, Over, Again, StateAgain, Undefined, Cycle, Deep}
+use Rattle.circuit.specs.declared.Refusal.the-variants.{TooBig, Misshapen, Short, Over, Again, StateAgain, Undefined, Cycle}
 use Rattle.circuit.specs.Map.{noImage, imageIn, codeOf}
 use Rattle.circuit.specs.Walk.{Work, Out, reached, stopped}
 use Rattle.circuit.specs.Circuit.{Circuit}
@@ -108,7 +108,6 @@ module _ (l : Lent) where
   after-refusal (StateAgain d) k = after-late (k .0 .fits) (StateAgain d)
   after-refusal (Undefined d) k = after-late (k .0 .fits) (Undefined d)
   after-refusal (Cycle d) k = after-late (k .0 .fits) (Cycle d)
-  after-refusal (Deep d) k = absurd k
 
   by-conclusion : (x : Out) → Concluded l x → KeepsPast l C (after l x)
   unfolding after

@@ -13,7 +13,7 @@ pub mod Outcome
 pub mod Renumber
 pub mod Checks
 pub mod Start
-pub mod NeverNine
+pub mod InRoom
 pub mod Walk
 pub mod Machine
 pub mod Invariant
@@ -30,5 +30,6 @@ pub mod Words
 pub mod Lists
 pub mod Tests
 pub mod Room
+pub mod Deepest
 pub mod Checker
 pub mod Again

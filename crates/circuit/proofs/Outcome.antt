@@ -13,7 +13,7 @@ use lib.ListN.{length, getD, take, drop, length-append, length-take, length-drop
 use lib.Seq.{take-all, take-at, getD-append-add, getD-drop}
 use Rattle.circuit.specs.declared.Refusal.{Refusal}
 use Rattle.circuit.specs.declared.Refusal.the-variants as R
-use Rattle.circuit.specs.declared.Refusal.the-variants.{TooBig, Misshapen, Short, StateAgain, Undefined, Cycle, Deep}
+use Rattle.circuit.specs.declared.Refusal.the-variants.{TooBig, Misshapen, Short, StateAgain, Undefined, Cycle}
 use Rattle.circuit.specs.declared.Summary.{Summary}
 use Rattle.circuit.specs.declared.Answer.the-variants.{Renumbered, Refused}
 use Rattle.circuit.specs.Refusals.{refusalNumber}
@@ -47,7 +47,6 @@ WhyLent l (StateAgain d) =
 WhyLent l (Undefined d) =
     Tested l × DefinedOnce (graph (circuitOf l)) × IsUsed (circuitOf l) (d .0) × (In (var (d .0)) (defined (graph (circuitOf l))) → ⊥)
 WhyLent l (Cycle d) = Tested l × DefinedOnce (graph (circuitOf l)) × IsUsed (circuitOf l) (d .0) × Loop (graph (circuitOf l)) (var (d .0))
-WhyLent l (Deep d) = ⊥
 
 module _ (l : Lent) where
   abbrev C : Circuit
@@ -170,7 +169,6 @@ module _ (l : Lent) where
   by-why f (StateAgain d) k = (tested-of f (k .0), k .1, k .2)
   by-why f (Undefined d) k = (tested-of f (k .0), k .1, k .2, k .3)
   by-why f (Cycle d) k = (tested-of f (k .0), k .1, k .2, k .3)
-  by-why f (Deep d) k = k
 
   by-renumber : Fits l → (o : Out) → Answered C o → Concluded o
   by-renumber f (reached w) a = (f, a)

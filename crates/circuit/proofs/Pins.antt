@@ -10,7 +10,7 @@ use native.Mathlib.Omega.{arith}
 use lib.ListN.{length, replicate}
 use Rattle.lit.specs.Code.{var, literal, variable, isOdd, flipped}
 use Rattle.circuit.specs.declared.Refusal.{Refusal}
-use Rattle.circuit.specs.declared.Refusal.the-variants.{Misshapen, Short, Over, Again, StateAgain, Undefined, Cycle, Deep}
+use Rattle.circuit.specs.declared.Refusal.the-variants.{Misshapen, Short, Over, Again, StateAgain, Undefined, Cycle}
 use Rattle.circuit.specs.declared.Answer.the-variants.{Renumbered, Refused}
 use Rattle.circuit.specs.declared.Image.the-variants.{Absent, Code}
 use Rattle.circuit.specs.Graph.{In, Distinct, Gate, outVar, Graph, defined, gateFor, Step, toFirst, toSecond, Reach, here, via, Loop, Grounded, Uses, itself, firstOf, secondOf, negated, Means, constant, source, negation}
@@ -519,9 +519,10 @@ abbrev machine : List Frame → At → Work → Machine
 machine fs at w = record { frames = fs; at = at; work = w }
 
 pub machine-pinned :
-    -- 7 is looked at below 3: its gate is entered; below two entries, which is all the room, it is not
+    -- 7 is looked at below 3: its gate is entered; and below two entries, since no limit is set
     (step plainNet (machine (frame 3 true ∷ []) (transfer 7) begun) ≡ goes (machine (frame 7 false ∷ frame 3 true ∷ []) (transfer 2) begun))
-    × (step plainNet (machine (frame 3 true ∷ frame 8 false ∷ []) (transfer 7) begun) ≡ ends (stopped (Deep (literal 7))))
+    × (step plainNet (machine (frame 3 true ∷ frame 8 false ∷ []) (transfer 7) begun) ≡ goes
+    (machine (frame 7 false ∷ frame 3 true ∷ frame 8 false ∷ []) (transfer 2) begun))
     -- 5 has its image, 9 no gate; 7 is the newer of two entries, which is the middle one
     × (step plainNet (machine (frame 7 true ∷ []) (transfer 5) begun) ≡ goes (machine (frame 7 true ∷ []) back begun))
     × (step plainNet (machine (frame 7 true ∷ []) (transfer 9) begun) ≡ ends (stopped (Undefined (literal 9))))

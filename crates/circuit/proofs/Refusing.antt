@@ -9,7 +9,7 @@ use borrow.Author.Tests.{le-leb, lt-leb}
 use lib.Dec.{leb}
 use lib.ListN.{length}
 use Rattle.circuit.specs.declared.Refusal.{Refusal}
-use Rattle.circuit.specs.declared.Refusal.the-variants.{TooBig, Misshapen, Short, Over, Again, StateAgain, Undefined, Cycle, Deep}
+use Rattle.circuit.specs.declared.Refusal.the-variants.{TooBig, Misshapen, Short, Over, Again, StateAgain, Undefined, Cycle}
 use Rattle.circuit.specs.declared.Answer.the-variants.{Refused}
 use Rattle.circuit.specs.Refusals.{refusalNumber}
 use Rattle.circuit.specs.Map.{noImage}
@@ -50,7 +50,6 @@ module _ (l : Lent) where
   says (StateAgain d) w = (passes (w .0), w .1, w .2)
   says (Undefined d) w = (passes (w .0), w .1, w .2, w .3)
   says (Cycle d) w = (passes (w .0), w .1, w .2, w .3)
-  says (Deep d) w = w
 
   pub refusals-true : (r : Refusal) → outcome l .answer ≡ Refused r → IsTrue l r
   refusals-true r e = says r (subst (Concluded l) (refusal-from l r e) (concluded l))
@@ -88,7 +87,6 @@ module _ (l : Lent) (r : Refusal) (e : outcome l .answer ≡ Refused r) where
   late-fits (StateAgain d) k h = k .0 .fits
   late-fits (Undefined d) k h = k .0 .fits
   late-fits (Cycle d) k h = k .0 .fits
-  late-fits (Deep d) k h = absurd k
 
   pub late : 5 ≤ refusalNumber r → Clears l C (outcome l)
   late h =

@@ -12,29 +12,28 @@ use lib.ListN.{length, length-append, length-map}
 use Rattle.lit.specs.Code.{var}
 use Rattle.circuit.specs.declared.Refusal.{Refusal}
 use Rattle.circuit.specs.declared.Refusal.the-variants as R
-use Rattle.circuit.specs.declared.Refusal.the-variants.{TooBig, Misshapen, Short, StateAgain, Undefined, Cycle, Deep}
-use Rattle.circuit.specs.Refusals.{refusalNumber}
+use Rattle.circuit.specs.declared.Refusal.the-variants.{TooBig, Misshapen, Short, StateAgain, Undefined, Cycle}
 use Rattle.circuit.specs.Graph.{In, Distinct, Gate, outVar, defined, DefinedOnce, toFirst, toSecond, Reach, here, via, Loop}
 use Rattle.circuit.specs.Map.{noImage}
-use Rattle.circuit.specs.Walk.{Work, Out, reached, stopped, walkAll}
-use Rattle.circuit.specs.Circuit.{Circuit, graph, net, gateOutputs, gateCodes, latchCodes, codes, firstOver, firstAgain, definitions, start, walked, orRefuse, renumber}
+use Rattle.circuit.specs.Walk.{Work, Out, reached, stopped, stackRoom}
+use Rattle.circuit.specs.Circuit.{Circuit, graph, net, gateOutputs, gateCodes, latchCodes, codes, firstOver, firstAgain, definitions, start, walked, walkWith, orRefuse, renumber}
 use Rattle.circuit.specs.Claims.{AllGrounded, Named, FirstOver, FirstAgain, IsUsed}
 use Rattle.circuit.specs.Tested.{InBounds}
 use Rattle.circuit.proofs.Tests.{Same, same, other, sameTest}
 use Rattle.circuit.proofs.Lists.{In-left, In-right, In-cases, In-unmap, below-few}
 use Rattle.circuit.proofs.Graph.{Uses-reach}
 use Rattle.circuit.proofs.Walk.{Cause, AllPost, walkAll-ok}
-use Rattle.circuit.proofs.NeverNine.{NotDeep, never-nine}
+use Rattle.circuit.proofs.InRoom.{all-in-room}
 use Rattle.circuit.proofs.Start.{start-inv, start-only}
 use Rattle.circuit.proofs.Checks.{Over, noneOver, oneOver, overTest, Apart, Again, once, again, againTest, map-append, map-outputs, no-again, parts-join, parts-ig, parts-zero, parts-s, parts-s-ig}
-use Rattle.circuit.specs.Invariant.{Sized, Inv, entry}
+use Rattle.circuit.specs.Invariant.{Sized, Inv, InRoom, entry}
 
 -- what checks 1 and 2 leave
 pub record Limits (C : Circuit) : Type 0 where
   pub few : 2 * (length (graph C .sources) + length (C .gates) + 1) ≤ noImage
   pub latches : length (C .states) ≡ length (C .nexts)
 
--- what is true where renumbering refuses; it gives no 1 to 3, and never 9
+-- what is true where renumbering refuses; it gives no 1 to 3
 abbrev pub Why : Circuit → Refusal → Type 0
 Why C TooBig = ⊥
 Why C Misshapen = ⊥
@@ -44,7 +43,6 @@ Why C (R.Again l) = InBounds C × FirstAgain (0 ∷ []) (definitions C) (l .0)
 Why C (StateAgain l) = InBounds C × Distinct (0 ∷ map var (definitions C)) × FirstAgain (0 ∷ map var (definitions C)) (C .states) (l .0)
 Why C (Undefined l) = InBounds C × DefinedOnce (graph C) × IsUsed C (l .0) × (In (var (l .0)) (defined (graph C)) → ⊥)
 Why C (Cycle l) = InBounds C × DefinedOnce (graph C) × IsUsed C (l .0) × Loop (graph C) (var (l .0))
-Why C (Deep l) = ⊥
 
 -- what is true where it succeeds
 pub record Done (C : Circuit) (w : Work) : Type 0 where
@@ -134,7 +132,6 @@ module _ (C : Circuit) where
   why-not (StateAgain l) k b o f = no-again (0 ∷ map var (definitions C)) (C .states) (l .0) (k .2) (once-states o) (once-apart o)
   why-not (Undefined l) k b o f = k .3 (f (k .2 .0) (k .2 .1) .known (var (l .0)) (Uses-reach (k .2 .2)))
   why-not (Cycle l) k b o f = f (k .2 .0) (k .2 .1) .noLoop (var (l .0)) (Uses-reach (k .2 .2)) (k .3)
-  why-not (Deep l) k b o f = k
 
 module _ (C : Circuit) (limits : Limits C) where
   named : InBounds C → DefinedOnce (graph C) → (w : Work) → AllPost (net C) (C .top) (walked C) (start (C .top) (graph C .sources)) (reached w)
@@ -146,8 +143,8 @@ module _ (C : Circuit) (limits : Limits C) where
       go true (same e) = inr (p .3 v e n)
       go false (other m) = inl (start-only (net C) (C .top) o (sized C limits b) v m)
 
-  by-cause : InBounds C → DefinedOnce (graph C) → (r : Refusal) → ((c : ℕ) × In c (walked C) × Cause (graph C) c r) → refusalNumber r ≢ 9 → Why C r
-  by-cause b o TooBig k n = k .2
+  by-cause : InBounds C → DefinedOnce (graph C) → (r : Refusal) → ((c : ℕ) × In c (walked C) × Cause (graph C) c r) → InRoom (stopped r) → Why C r
+  by-cause b o TooBig k n = n refl
   by-cause b o Misshapen k n = k .2
   by-cause b o Short k n = k .2
   by-cause b o (R.Over l) k n = absurd (k .2)
@@ -155,9 +152,8 @@ module _ (C : Circuit) (limits : Limits C) where
   by-cause b o (StateAgain l) k n = absurd (k .2)
   by-cause b o (Undefined l) k n = (b, o, (k .0, k .1, k .2 .0), k .2 .1)
   by-cause b o (Cycle l) k n = (b, o, (k .0, k .1, k .2 .0), k .2 .1)
-  by-cause b o (Deep l) k n = n refl
 
-  walk-part : InBounds C → DefinedOnce (graph C) → (out : Out) → AllPost (net C) (C .top) (walked C) (start (C .top) (graph C .sources)) out → NotDeep out
+  walk-part : InBounds C → DefinedOnce (graph C) → (out : Out) → AllPost (net C) (C .top) (walked C) (start (C .top) (graph C .sources)) out → InRoom out
       → Answered C out
   walk-part b o (reached w) p q =
       record { bounds = b; once = o; grounded = λ c h. p .0 .grounded (var c) (p .2 c h); inv = p .0; images = p .2; named = named b o w p }
@@ -190,9 +186,10 @@ module _ (C : Circuit) (limits : Limits C) where
       (λ d z.
       check-6 b d z (firstAgain (0 ∷ map var (definitions C)) (C .states)) (againTest (0 ∷ map var (definitions C)) (C .states)) _
       (λ o.
-      walk-part b o (walkAll (net C) (walked C) (start (C .top) (graph C .sources)))
-      (walkAll-ok (net C) (C .top) o (sized C limits b) (walked C) (start (C .top) (graph C .sources)) (start-inv (net C) (C .top) o (sized C limits b)))
-      (never-nine (net C) (C .top) o (sized C limits b) (walked C) (start (C .top) (graph C .sources)) (start-inv (net C) (C .top) o (sized C limits b))))))
+      walk-part b o (walkWith (stackRoom (net C)) C)
+      (walkAll-ok (net C) (C .top) o (sized C limits b) (stackRoom (net C)) (walked C) (start (C .top) (graph C .sources))
+      (start-inv (net C) (C .top) o (sized C limits b)))
+      (all-in-room (net C) (C .top) o (sized C limits b) (walked C) (start (C .top) (graph C .sources)) (start-inv (net C) (C .top) o (sized C limits b))))))
 
 -- no more is defined than there are variables: I + L + G ≤ V
 pub counting : (C : Circuit) → Limits C → InBounds C → DefinedOnce (graph C) → length (graph C .sources) + length (C .gates) ≤ C .top

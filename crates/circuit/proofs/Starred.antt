@@ -5,7 +5,7 @@ use mathlib.Core.List.{List, [], _∷_, map}
 use Rattle.lit.specs.Code.{literal, flipped}
 use Rattle.token.specs.Answer.{goOnAt, binaryAt, deltaAt, tokenNumber}
 use Rattle.token.specs.declared.Token.the-variants.{Value}
-use Rattle.circuit.specs.declared.Refusal.the-variants.{Cycle, Deep}
+use Rattle.circuit.specs.declared.Refusal.the-variants.{TooBig, Cycle}
 use Rattle.circuit.specs.Map.{entryImage, imageIn, store, codeOf}
 use Rattle.circuit.specs.Walk.{firstCode, nextCode, folded, already, settleAs, settleOn, settle, stopped, look, throughInputs, walk, walkAll}
 use Rattle.circuit.specs.Circuit.{net, codes, start, walked, renumber}
@@ -48,8 +48,8 @@ starredExamples =
 pub starred :
     -- every starred circuit has its outcome
     (map (λ x. outcome (x .lent)) starredExamples ≡ map (λ x. x .expected) starredExamples)
-    -- the one named so is two entries deep, since with room for one entry it would be 9
-    × (walk (net (circuitOf twoDeep)) 1 [] (start 1 []) 3 ≡ stopped (Deep (literal 2)))
+    -- the one named so is two entries deep: one entry is no room for it
+    × (walk (net (circuitOf twoDeep)) 1 [] (start 1 []) 3 ≡ stopped TooBig)
     -- deltas from the reference 6: `02` gives 4; `80 00` gives 6; `07` is 17; `80` is 15; eight `80` is 16
     × (deltaAt (0x02 ∷ []) 0 6 ≡ Value 4 1)
     × (deltaAt (0x80 ∷ 0x00 ∷ []) 0 6 ≡ Value 6 2)

@@ -14,10 +14,10 @@ use Rattle.lit.specs.Code.{var, literal}
 use Rattle.circuit.specs.declared.Image.{Image}
 use Rattle.circuit.specs.declared.Image.the-variants.{Absent, Code}
 use Rattle.circuit.specs.declared.Refusal.{Refusal}
-use Rattle.circuit.specs.declared.Refusal.the-variants.{TooBig, Misshapen, Short, Over, Again, StateAgain, Undefined, Cycle, Deep}
+use Rattle.circuit.specs.declared.Refusal.the-variants.{TooBig, Misshapen, Short, Over, Again, StateAgain, Undefined, Cycle}
 use Rattle.circuit.specs.Graph.{In, Gate, Graph, outVar, defined, DefinedOnce, gateFor, Step, toFirst, toSecond, Reach, here, via, Loop, Uses, itself}
 use Rattle.circuit.specs.Map.{noImage, imageIn}
-use Rattle.circuit.specs.Walk.{Net, Work, Out, reached, stopped, Look, mapped, refused, enter, isMiddle, lookAt, look, andThen, throughInputs, answer, walk, stackRoom, walkAll, settle}
+use Rattle.circuit.specs.Walk.{Net, Work, Out, reached, stopped, Look, mapped, refused, enter, isMiddle, lookAt, look, andThen, throughInputs, answer, noRoom, walk, walkAll, settle}
 use Rattle.circuit.proofs.Tests.{Same, same, other, sameTest}
 use Rattle.circuit.proofs.Map.{Looked, gone, found, looked}
 use Rattle.circuit.proofs.Lists.{In-cases, In-getD, In-unmap}
@@ -29,10 +29,10 @@ use Rattle.circuit.specs.Invariant.{Sized, Inv, entry}
 abbrev pub Leads : Graph → List ℕ → ℕ → Type 0
 Leads G path c = (p : ℕ) → In p path → Plus G (var p) (var c)
 
--- why the walk of c refuses: 7 names a literal that is used and not defined, 8 one that is used and reaches itself. That 9 has no cause is shown in
--- proofs/NeverNine.antt; the walk gives no other
+-- why the walk of c refuses: 7 names a literal that is used and not defined, 8 one that is used and reaches itself. 1 says that there is no room, and is
+-- shown never to be said in proofs/InRoom.antt; the walk gives no other
 abbrev pub Cause : Graph → ℕ → Refusal → Type 0
-Cause G c TooBig = ⊥
+Cause G c TooBig = Unit {0}
 Cause G c Misshapen = ⊥
 Cause G c Short = ⊥
 Cause G c (Over l) = ⊥
@@ -40,7 +40,6 @@ Cause G c (Again l) = ⊥
 Cause G c (StateAgain l) = ⊥
 Cause G c (Undefined l) = Uses G c (l .0) × (In (var (l .0)) (defined G) → ⊥)
 Cause G c (Cycle l) = Uses G c (l .0) × Loop G (var (l .0))
-Cause G c (Deep l) = Unit {0}
 
 -- what uses all that c uses has the same cause
 Cause-from : {G : Graph} {a c : ℕ} → ((l : ℕ) → Uses G a l → Uses G c l) → (r : Refusal) → Cause G a r → Cause G c r
@@ -52,7 +51,6 @@ Cause-from f (Again l) k = k
 Cause-from f (StateAgain l) k = k
 Cause-from f (Undefined l) k = (f (l .0) (k .0), k .1)
 Cause-from f (Cycle l) k = (f (l .0) (k .0), k .1)
-Cause-from f (Deep l) k = k
 
 -- the middle of the path, with what it says
 data Mid (path : List ℕ) (c : ℕ) : Bool → Type 0 where
@@ -197,7 +195,7 @@ module _ (N : Net) (top : ℕ) (once : DefinedOnce (N .graph)) (sized : Sized N 
   pub walk-ok : (room : ℕ) (path : List ℕ) (w : Work) (c : ℕ) → Inv N top w → Post N top path w c (walk N room path w c)
   unfolding walk
   walk-ok zero path w c i =
-      answer-ok path w c (λ g. stopped (Deep (literal c))) i (λ g o h k leads. tt) (look N path w c) (looking N path w c)
+      answer-ok path w c (λ g. noRoom) i (λ g o h k leads. tt) (look N path w c) (looking N path w c)
   walk-ok (suc room) path w c i =
       answer-ok path w c (λ g. throughInputs N (λ w′ c′. walk N room (path ++ (c ∷ [])) w′ c′) g w) i
       (λ g o h k.
@@ -220,12 +218,12 @@ module _ (N : Net) (top : ℕ) (once : DefinedOnce (N .graph)) (sized : Sized N 
       images c′ (inl e) = subst⁻¹ (λ (x : ℕ). entry (w₂ .images) (var x) ≢ noImage) e (λ k. p .2 (sym (q .1 (var c) (p .2)) ∙ k))
       images c′ (inr h) = q .2 c′ h
 
-  one-ok : (c : ℕ) (cs : List ℕ) (w : Work) → ((w₁ : Work) → Inv N top w₁ → AllPost N top cs w₁ (walkAll N cs w₁)) → (o : Out) → Post N top [] w c o
-      → AllPost N top (c ∷ cs) w (andThen o (λ w₁. walkAll N cs w₁))
-  one-ok c cs w rec (stopped r) p = (c, inl refl, p (λ x h. absurd h))
-  one-ok c cs w rec (reached w₁) p = rest-ok c cs w w₁ p (walkAll N cs w₁) (rec w₁ (p .0))
+  one-ok : (room c : ℕ) (cs : List ℕ) (w : Work) → ((w₁ : Work) → Inv N top w₁ → AllPost N top cs w₁ (walkAll N room cs w₁)) → (o : Out) → Post N top [] w c o
+      → AllPost N top (c ∷ cs) w (andThen o (λ w₁. walkAll N room cs w₁))
+  one-ok room c cs w rec (stopped r) p = (c, inl refl, p (λ x h. absurd h))
+  one-ok room c cs w rec (reached w₁) p = rest-ok c cs w w₁ p (walkAll N room cs w₁) (rec w₁ (p .0))
 
-  pub walkAll-ok : (cs : List ℕ) (w : Work) → Inv N top w → AllPost N top cs w (walkAll N cs w)
+  pub walkAll-ok : (room : ℕ) (cs : List ℕ) (w : Work) → Inv N top w → AllPost N top cs w (walkAll N room cs w)
   unfolding walkAll
-  walkAll-ok [] w i = (i, λ v n. refl, λ c h. absurd h, λ v e n. absurd (n e))
-  walkAll-ok (c ∷ cs) w i = one-ok c cs w (λ w₁ i₁. walkAll-ok cs w₁ i₁) (walk N (stackRoom N) [] w c) (walk-ok (stackRoom N) [] w c i)
+  walkAll-ok room [] w i = (i, λ v n. refl, λ c h. absurd h, λ v e n. absurd (n e))
+  walkAll-ok room (c ∷ cs) w i = one-ok room c cs w (λ w₁ i₁. walkAll-ok room cs w₁ i₁) (walk N room [] w c) (walk-ok room [] w c i)

@@ -11,7 +11,7 @@ use Rattle.circuit.specs.declared.Refusal.{Refusal}
 use Rattle.circuit.specs.declared.Refusal.the-variants.{Over, Again, StateAgain}
 use Rattle.circuit.specs.Graph.{Gate, Graph}
 use Rattle.circuit.specs.Map.{noImage, store}
-use Rattle.circuit.specs.Walk.{Net, Work, Out, stopped, walkAll}
+use Rattle.circuit.specs.Walk.{Net, Work, Out, stopped, stackRoom, walkAll}
 
 -- `top` is the largest variable index V; a latch has a state and a next literal; the roots stand in walk order, and `counts` is the row of the
 -- numbers of outputs, bad states, constraints, fairness and justice literals among them
@@ -85,15 +85,19 @@ start top sources = record { images = storeFrom (store (replicate (top + 1) noIm
 unfoldable pub walked : Circuit → List ℕ
 walked C = cond (C .trim) [] (gateOutputs C) ++ (C .nexts ++ C .roots)
 
+-- the walk of all that is walked, with room for this many entries
+abbrev pub walkWith : ℕ → Circuit → Out
+walkWith room C = walkAll (net C) room (walked C) (start (C .top) (graph C .sources))
+
 -- a check that found a literal refuses it; else what comes after
 abbrev pub orRefuse : Option ℕ → (Lit → Refusal) → Out → Out
 orRefuse (some c) why out = stopped (why (literal c))
 orRefuse none why out = out
 
--- checks 4 to 6 in their order; then the walk
+-- checks 4 to 6 in their order; then the walk, with two entries a gate
 unfoldable pub renumber : Circuit → Out
 renumber C =
     orRefuse (firstOver (2 * C .top + 1) (codes C)) Over
     (orRefuse (firstAgain (0 ∷ []) (definitions C)) Again
     (orRefuse (firstAgain (0 ∷ map var (definitions C)) (C .states)) StateAgain
-    (walkAll (net C) (walked C) (start (C .top) (graph C .sources)))))
+    (walkWith (stackRoom (net C)) C)))

@@ -10,7 +10,7 @@ use Rattle.lit.specs.Code.{var, literal, flipped}
 use Rattle.lit.specs.declared.Lit.{Lit}
 use Rattle.circuit.specs.declared.Image.the-variants.{Code}
 use Rattle.circuit.specs.declared.Refusal.{Refusal}
-use Rattle.circuit.specs.declared.Refusal.the-variants.{TooBig, Misshapen, Short, Over, Again, StateAgain, Undefined, Cycle, Deep}
+use Rattle.circuit.specs.declared.Refusal.the-variants.{TooBig, Misshapen, Short, Over, Again, StateAgain, Undefined, Cycle}
 use Rattle.circuit.specs.declared.Summary.{Summary}
 use Rattle.circuit.specs.Graph.{In, Distinct, Gate, outVar, Graph, defined, DefinedOnce, Reach, Loop, Grounded, Uses, Means}
 use Rattle.circuit.specs.Map.{noImage, imageOf}
@@ -194,7 +194,7 @@ IsUsed C d = (c : ℕ) × In c (walked C) × Uses (graph C) c d
 abbrev pub definedFirst : Circuit → List ℕ
 definedFirst C = C .inputs ++ map (λ g. g .output) (C .gates)
 
--- what is true where renumbering refuses: the checks before are passed, and this one is not. 9 is never given
+-- what is true where renumbering refuses: the checks before are passed, and this one is not
 abbrev pub IsTrue : Lent → Refusal → Type 0
 IsTrue l TooBig = Within (circuitOf l) → ⊥
 IsTrue l Misshapen = Within (circuitOf l) × (Agrees l → ⊥)
@@ -206,7 +206,6 @@ IsTrue l (StateAgain d) =
 IsTrue l (Undefined d) =
     Passes l × DefinedOnce (graph (circuitOf l)) × IsUsed (circuitOf l) (d .0) × (In (var (d .0)) (defined (graph (circuitOf l))) → ⊥)
 IsTrue l (Cycle d) = Passes l × DefinedOnce (graph (circuitOf l)) × IsUsed (circuitOf l) (d .0) × Loop (graph (circuitOf l)) (var (d .0))
-IsTrue l (Deep d) = ⊥
 
 -- a list afterwards is as long as it was, and has what it had from the place n on
 abbrev pub Keeps : ℕ → List ℕ → List ℕ → Type 0
@@ -234,7 +233,7 @@ pub record KeepsAll (l : Lent) (o : Outcome) : Type 0 where
   pub gates : Keeps 0 (l .gatesOut) (o .gatesOut)
   pub scratch : Keeps 0 (l .scratch) (o .scratch)
 
--- after refusals 5 to 9: V + 1 cells of the map hold the word for no image; L next images, R root images, 2G words of gates and 3V + 3 + 3G words of
+-- after refusals 5 to 8: V + 1 cells of the map hold the word for no image; L next images, R root images, 2G words of gates and 3V + 3 + 3G words of
 -- scratch hold 0; and all other cells are as they were
 pub record Clears (l : Lent) (C : Circuit) (o : Outcome) : Type 0 where
   pub map : Filled (C .top + 1) noImage (l .map) (o .map)

@@ -2,7 +2,7 @@
 -- afterwards. proofs/Demands.antt proves `Demands` of the outcome that the definition gives, and `aig` of whatever the function `renumber` leaves.
 -- Every cell is told by what
 -- it is; the walk's definition is needed only for the order in which new gates are numbered. The words stand in Claims.antt and Graph.antt. Assumes nothing.
-use Prim.Native.Nat.{ℕ, _+_, _*_, _<_, _≤_}
+use Prim.Native.Nat.{ℕ, _+_, _*_, _-_, _<_, _≤_}
 use mathlib.Core.Path.{_≡_}
 use mathlib.Core.Logic.{_≢_, _↔_}
 use mathlib.Core.Bool.{Bool, true, false}
@@ -10,15 +10,16 @@ use lib.ListN.{length, getD}
 use Rattle.lit.specs.Code.{var, literal}
 use Rattle.lit.specs.declared.Lit.{Lit}
 use Rattle.circuit.specs.declared.Refusal.{Refusal}
-use Rattle.circuit.specs.declared.Refusal.the-variants.{Deep}
+use Rattle.circuit.specs.declared.Refusal.the-variants.{Undefined, Cycle}
 use Rattle.circuit.specs.declared.Summary.{Summary}
 use Rattle.circuit.specs.declared.Answer.the-variants.{Renumbered, Refused}
 use Rattle.circuit.specs.Refusals.{refusalNumber}
 use Rattle.circuit.specs.Graph.{In, Gate, outVar, DefinedOnce}
 use Rattle.circuit.specs.Map.{noImage}
-use Rattle.circuit.specs.Circuit.{Circuit, graph, walked}
+use Rattle.circuit.specs.Walk.{Work, Out, reached, stopped, noRoom}
+use Rattle.circuit.specs.Circuit.{Circuit, graph, walked, walkWith}
 use Rattle.circuit.specs.Ordered.{Ordered, sourcesOf, orderedGraph, noPair, InOrder}
-use Rattle.circuit.specs.Outcome.{Lent, Outcome, held}
+use Rattle.circuit.specs.Outcome.{Lent, Outcome, circuitOf, held}
 use Rattle.circuit.specs.Claims.{Passes, AllGrounded, HasImage, Named, SameValue, imageAfter, largerAfter, smallerAfter, Stays, IsNew, Ruled, IsTrue, KeepsPast, KeepsAll, Clears, Fills, Holds}
 
 -- after a success that answered s, where the lists hold the ordered circuit D
@@ -67,9 +68,8 @@ pub record Demands (l : Lent) (C : Circuit) (o : Outcome) : Type 0 where
   -- defined, and no gate so reached reaches itself
   pub succeedsExactly : Passes l → ((s : Summary) × (o .answer ≡ Renumbered s)) ↔ (DefinedOnce (graph C) × AllGrounded C)
   -- a refusal is true: it is the first check that is not passed, it names the first literal at fault in the check's order, 7 names a literal that is used
-  -- and not defined, and 8 one that is used and reaches itself; 9 is never given
+  -- and not defined, and 8 one that is used and reaches itself
   pub refusalsTrue : (r : Refusal) → o .answer ≡ Refused r → IsTrue l r
-  pub neverNine : (d : Lit) → o .answer ≢ Refused (Deep d)
   -- after refusals 1 to 4 every cell holds what it held; after the others the cells named hold the word for no image or 0, and all others what they held
   pub earlyRefusalsKeep : (r : Refusal) → o .answer ≡ Refused r → refusalNumber r ≤ 4 → KeepsAll l o
   pub lateRefusalsClear : (r : Refusal) → o .answer ≡ Refused r → 5 ≤ refusalNumber r → Clears l C o
@@ -77,3 +77,21 @@ pub record Demands (l : Lent) (C : Circuit) (o : Outcome) : Type 0 where
   pub pastKept : KeepsPast l C o
   -- after a success the lists hold an ordered circuit
   pub success : (s : Summary) → o .answer ≡ Renumbered s → AfterSuccess l C o s (held l s o)
+
+-- a walk ends before its room does: by success, by 7 or by 8
+pub data EndsFirst : Out → Type 0 where
+  bySuccess : (w : Work) → EndsFirst (reached w)
+  bySeven : (d : Lit) → EndsFirst (stopped (Undefined d))
+  byEight : (d : Lit) → EndsFirst (stopped (Cycle d))
+
+-- two entries a gate are no limit: with room for 2G entries the walk ends first, and with any more it comes to the same
+pub record NeverTooDeep (C : Circuit) : Type 0 where
+  pub ends : EndsFirst (walkWith (2 * length (C .gates)) C)
+  pub moreIsSame : (room : ℕ) → 2 * length (C .gates) ≤ room → walkWith room C ≡ walkWith (2 * length (C .gates)) C
+
+-- and no fewer would do: l lends G gates that pass checks 1 to 6, and with room for one entry fewer than 2G the walk has no room
+pub record AsDeepAsCanBe (l : Lent) (G : ℕ) : Type 0 where
+  pub passes : Passes l
+  pub once : DefinedOnce (graph (circuitOf l))
+  pub gates : length (circuitOf l .gates) ≡ G
+  pub needsAll : walkWith (2 * G - 1) (circuitOf l) ≡ noRoom

@@ -10,6 +10,7 @@ use lib.Dec.{eqb}
 use lib.ListN.{length, getD, take}
 use Rattle.lit.specs.Code.{var, isOdd, flipped, literal}
 use Rattle.circuit.specs.declared.Refusal.the-variants.{Undefined}
+use Rattle.circuit.specs.Refusals.{refusalNumber}
 use Rattle.circuit.specs.Graph.{In, Gate, Graph, outVar, gateFor, Grounded}
 use Rattle.circuit.specs.Map.{noImage}
 use Rattle.circuit.specs.Walk.{Net, sourceCount, Pair, Work, Out, reached, stopped, andThen, walk, settle, stackRoom, firstCode, nextCode, foldedIf, already}
@@ -147,6 +148,11 @@ comesToAt N fs back w = resume N fs (reached w)
 abbrev pub comesTo : Net → Machine → Out
 comesTo N m = comesToAt N (m .frames) (m .at) (m .work)
 
+-- there was room for every gate that was entered
+abbrev pub InRoom : Out → Type 0
+InRoom (reached w) = Unit {0}
+InRoom (stopped r) = refusalNumber r ≢ 1
+
 -- the input of a gate that a frame has under way, and what is known of the other
 abbrev pub InputIs : Work → Bool → Gate → ℕ → Type 0
 InputIs w false g c = c ≡ g .first
@@ -174,4 +180,5 @@ AtOk N w fs back = (c : ℕ) × Stack N w fs c × (entry (w .images) (var c) ≢
 pub record Running (N : Net) (top : ℕ) (m : Machine) : Type 0 where
   pub inv : Inv N top (m .work)
   pub short : length (m .frames) ≤ stackRoom N
+  pub inRoom : InRoom (comesTo N m)
   pub stack : AtOk N (m .work) (m .frames) (m .at)

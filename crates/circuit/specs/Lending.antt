@@ -58,7 +58,7 @@ succeeds l made top map nexts gates roots =
     outcomeOf (Renumbered (record { made = made; top = variable top })) (wrote map) (wrote nexts) (wrote roots) (wrote gates)
     (wrote (replicate (length (l .scratch) - 1) 0))
 
--- a refusal of 5 to 9
+-- a refusal of 5 to 8
 abbrev pub clears : Lent → Refusal → Outcome
 clears l why =
     outcomeOf (Refused why) (wrote (replicate (length (l .map) - 1) 4294967295)) (wrote (replicate (length (l .nextImages) - 1) 0))
@@ -73,7 +73,7 @@ pub record Example : Type 0 where
   pub lent : Lent
   pub expected : Outcome
 
--- an example that succeeds, one refused by 5 to 9, one refused by 1 to 4
+-- an example that succeeds, one refused by 5 to 8, one refused by 1 to 4
 abbrev pub success : Lent → ℕ → ℕ → List ℕ → List ℕ → List ℕ → List ℕ → Example
 success l made top map nexts gates roots = record { lent = l; expected = succeeds l made top map nexts gates roots }
 

@@ -1,15 +1,14 @@
--- The walk as a machine, a step at a time, with a stack of literals: what a loop does. That it comes to what `walk` comes to, that each step brings it
--- nearer to its end, and what stays true on the way is proved in proofs/Machine.antt. Assumes nothing.
+-- The walk as a machine, a step at a time, with a stack of literals that no limit is set to: what a loop does. That it comes to what `walk` comes to, that
+-- each step brings it nearer to its end, and what stays true on the way, as that two entries a gate are room for it, is proved in proofs/Machine.antt.
+-- Assumes nothing.
 use Prim.Native.Nat.{ℕ, _+_, _*_}
 use mathlib.Core.Bool.{Bool, true, false, cond}
 use mathlib.Core.Option.{Option, none, some}
 use mathlib.Core.List.{List, [], _∷_, _++_}
-use lib.Dec.{ltb}
-use lib.ListN.{length}
 use Rattle.circuit.specs.Graph.{Gate, gateFor}
 use Rattle.lit.specs.Code.{var, literal}
-use Rattle.circuit.specs.declared.Refusal.the-variants.{Undefined, Deep}
-use Rattle.circuit.specs.Walk.{Net, Work, Out, reached, stopped, Look, mapped, refused, enter, look, settle, stackRoom}
+use Rattle.circuit.specs.declared.Refusal.the-variants.{Undefined}
+use Rattle.circuit.specs.Walk.{Net, Work, Out, reached, stopped, Look, mapped, refused, enter, look, settle}
 
 -- a literal that was entered and is not left: its first input is under way, or its second
 pub record Frame : Type 0 where
@@ -41,12 +40,11 @@ pathOf (f ∷ fs) = pathOf fs ++ (f .lit ∷ [])
 abbrev pub pushed : List Frame → ℕ → List Frame
 pushed fs c = record { lit = c; onSecond = false } ∷ fs
 
--- after a look at the literal c: go back, refuse, or enter its gate if there is room
+-- after a look at the literal c: go back, refuse, or enter its gate
 unfoldable pub stepLook : Net → List Frame → Work → ℕ → Look → Next
 stepLook N fs w c mapped = goes (record { frames = fs; at = back; work = w })
 stepLook N fs w c (refused r) = ends (stopped r)
-stepLook N fs w c (enter g) =
-    cond (ltb (length fs) (stackRoom N)) (goes (record { frames = pushed fs c; at = transfer (g .first); work = w })) (ends (stopped (Deep (literal c))))
+stepLook N fs w c (enter g) = goes (record { frames = pushed fs c; at = transfer (g .first); work = w })
 
 -- back at the newest frame, whose literal is c: on to the second input, or settle the gate
 unfoldable pub stepBack : Net → ℕ → List Frame → Work → Bool → Option Gate → Next

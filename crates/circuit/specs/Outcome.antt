@@ -158,7 +158,7 @@ written l C images O =
     outcomeOf (Renumbered (summaryOf O)) (onto images (l .map)) (onto (O .nexts) (l .nextImages)) (onto (O .roots) (l .rootImages))
     (onto (pairWords (O .gates) ++ zeros (2 * (length (C .gates) - length (O .gates)))) (l .gatesOut)) (onto (zeros (scratchWords C)) (l .scratch))
 
--- after refusals 5 to 9: no images in the map, and zeros in the other lists
+-- after refusals 5 to 8: no images in the map, and zeros in the other lists
 abbrev pub cleared : Lent → Circuit → Refusal → Outcome
 cleared l C why =
     outcomeOf (Refused why) (onto (replicate (mapWords C) noImage) (l .map)) (onto (zeros (length (C .states))) (l .nextImages))

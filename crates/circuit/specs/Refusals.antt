@@ -3,9 +3,9 @@ use Prim.Native.Nat.{ℕ}
 use Rattle.lit.specs.Code.{literal}
 use Rattle.lit.specs.declared.Lit.{Lit}
 use Rattle.circuit.specs.declared.Refusal.{Refusal}
-use Rattle.circuit.specs.declared.Refusal.the-variants.{TooBig, Misshapen, Short, Over, Again, StateAgain, Undefined, Cycle, Deep}
+use Rattle.circuit.specs.declared.Refusal.the-variants.{TooBig, Misshapen, Short, Over, Again, StateAgain, Undefined, Cycle}
 
--- the number of a refusal
+-- the number of a refusal; 9 is withdrawn, and its number is not used again
 abbrev pub refusalNumber : Refusal → ℕ
 refusalNumber TooBig = 1
 refusalNumber Misshapen = 2
@@ -15,7 +15,6 @@ refusalNumber (Again l) = 5
 refusalNumber (StateAgain l) = 6
 refusalNumber (Undefined l) = 7
 refusalNumber (Cycle l) = 8
-refusalNumber (Deep l) = 9
 
 -- the literal at fault; 0 where there is none
 abbrev pub refusalLiteral : Refusal → Lit
@@ -27,4 +26,3 @@ refusalLiteral (Again l) = l
 refusalLiteral (StateAgain l) = l
 refusalLiteral (Undefined l) = l
 refusalLiteral (Cycle l) = l
-refusalLiteral (Deep l) = l

@@ -10,7 +10,7 @@ use Rattle.lit.specs.Code.{var, literal}
 use Rattle.circuit.specs.declared.Image.{Image}
 use Rattle.circuit.specs.declared.Image.the-variants.{Absent, Code}
 use Rattle.circuit.specs.declared.Refusal.{Refusal}
-use Rattle.circuit.specs.declared.Refusal.the-variants.{Undefined, Cycle, Deep}
+use Rattle.circuit.specs.declared.Refusal.the-variants.{TooBig, Undefined, Cycle}
 use Rattle.circuit.specs.Map.{imageIn, store, codeOf}
 use Rattle.circuit.specs.Graph.{Gate, Graph, gateFor}
 
@@ -123,9 +123,14 @@ answer mapped w go = reached w
 answer (refused r) w go = stopped r
 answer (enter g) w go = go g
 
+-- what is said of a gate that there is no room to enter: 1, which the walk says nowhere else. With two entries a gate it is never said
+-- (`never-too-deep` in proofs/Demands.antt)
+abbrev pub noRoom : Out
+noRoom = stopped TooBig
+
 -- the walk of the literal c, with room for `room` more entries on the path
 unfoldable pub walk : Net → ℕ → List ℕ → Work → ℕ → Out
-walk N zero path w c = answer (look N path w c) w (λ g. stopped (Deep (literal c)))
+walk N zero path w c = answer (look N path w c) w (λ g. noRoom)
 walk N (suc room) path w c = answer (look N path w c) w (λ g. throughInputs N (λ w′ c′. walk N room (path ++ (c ∷ [])) w′ c′) g w)
 
 -- the path holds two entries a gate
@@ -133,6 +138,6 @@ abbrev pub stackRoom : Net → ℕ
 stackRoom N = 2 * length (N .graph .gates)
 
 -- literals in turn, each with the whole room
-unfoldable pub walkAll : Net → List ℕ → Work → Out
-walkAll N [] w = reached w
-walkAll N (c ∷ cs) w = andThen (walk N (stackRoom N) [] w c) (λ w′. walkAll N cs w′)
+unfoldable pub walkAll : Net → ℕ → List ℕ → Work → Out
+walkAll N room [] w = reached w
+walkAll N room (c ∷ cs) w = andThen (walk N room [] w c) (λ w′. walkAll N room cs w′)

@@ -16,7 +16,6 @@ pub enum Refusal {
     StateAgain(Lit),
     Undefined(Lit),
     Cycle(Lit),
-    Deep(Lit),
 }
 
 // What a success answers: the number of gates made, and the new largest variable.

@@ -18,7 +18,6 @@ pub fn number(why: Refusal) -> u32
         Refusal::StateAgain(_) => 6,
         Refusal::Undefined(_) => 7,
         Refusal::Cycle(_) => 8,
-        Refusal::Deep(_) => 9,
     }
 }
 
@@ -36,6 +35,5 @@ pub fn literal(why: Refusal) -> Lit
         Refusal::StateAgain(l) => l,
         Refusal::Undefined(l) => l,
         Refusal::Cycle(l) => l,
-        Refusal::Deep(l) => l,
     }
 }

@@ -15,7 +15,7 @@ use Rattle.sheet_read.specs.declared.Offender.the-variants.{Nothing, Over}
 use Rattle.sheet_lines.specs.Lines.{refusedLine}
 use Rattle.sheet_read.specs.Sheet.{topOf, inputCount, latchCount, gateCount, rootCount, codeCount}
 use Rattle.sheet.specs.Circuit.{statesOf, nextsOf, inputCodes, gateWords, latchWords, rootCodes, circuitOn, recordOn}
-use Rattle.sheet_lines.specs.Text.{beside, refusedText}
+use Rattle.sheet_lines.specs.Text.{refusedText}
 use Rattle.sheet.specs.Report.{outText}
 use Rattle.sheet_read.specs.Promise.{offender, Taken}
 use Rattle.sheet.specs.Promise.{Words, circuitIn, Shaped}
@@ -39,7 +39,7 @@ part i n cs = ap (λ (l : List ℕ). take n (drop i cs) ++ l) (sym (drop-drop n 
 
 -- a circuit that check 4 refuses
 over-text : (C : Circuit) (c : ℕ) → firstOver (2 * C .top + 1) (codes C) ≡ some c → refusedLine 4 c ≡ outText C (renumber C)
-unfolding renumber refusedText beside
+unfolding renumber refusedText
 over-text C c e = rw e
 
 pub words-long : (h cs : List ℕ) → length cs ≡ codeCount h → length cs ≡ inputCount h + 3 * gateCount h + 2 * latchCount h + rootCount h

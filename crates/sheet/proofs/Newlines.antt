@@ -9,13 +9,13 @@ use Rattle.circuit.specs.Walk.{Out, reached, stopped, firstCode}
 use Rattle.circuit.specs.Circuit.{Circuit, renumber}
 use Rattle.circuit.specs.Ordered.{Ordered, orderedOf, gatesFrom}
 use Rattle.circuit.specs.Outcome.{summaryOf}
-use Rattle.circuit.specs.Refusals.{refusalNumber}
+use Rattle.circuit.specs.Refusals.{refusalNumber, refusalLiteral}
 use Rattle.sheet_read.specs.declared.Reading.{Reading}
 use Rattle.sheet_read.specs.declared.Reading.the-variants.{Whole, Faulty}
 use Rattle.sheet_lines.specs.Lines.{spaced, ended, orderedWord, refusedWord, refusedLine, orderedLine, gateLine, imageLine, nextLetter, rootLetter, each}
 use Rattle.sheet_read.specs.Sheet.{readOf}
 use Rattle.sheet.specs.Circuit.{circuitOn}
-use Rattle.sheet_lines.specs.Text.{beside, refusedText, orderedText}
+use Rattle.sheet_lines.specs.Text.{refusedText, orderedText}
 use Rattle.sheet.specs.Report.{textOf, outText, readText, reportOf, Ends}
 
 after : (xs : List ℕ) {bs : List ℕ} → Ends bs → Ends (xs ++ bs)
@@ -67,7 +67,7 @@ text-ends O =
 out-ends : (C : Circuit) (o : Out) → Ends (outText C o)
 unfolding refusedText
 out-ends C (reached w) = text-ends (orderedOf C w)
-out-ends C (stopped why) = refused-ends (refusalNumber why) (beside why)
+out-ends C (stopped why) = refused-ends (refusalNumber why) (refusalLiteral why .0)
 
 read-ends : (r : Reading) (C : Circuit) → Ends (readText r C)
 read-ends (Faulty n k) C = refused-ends n k

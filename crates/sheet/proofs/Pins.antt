@@ -17,7 +17,7 @@ use Rattle.circuit.specs.Circuit.{Circuit, renumber, codes, walked, start}
 use Rattle.circuit.specs.Ordered.{orderedOf, imagesIn}
 use Rattle.sheet_lines.proofs.Pins.{bytes}
 use Rattle.sheet_lines.specs.Lines.{refusedLine, orderedLine, gateLine, imageLine}
-use Rattle.sheet_lines.specs.Text.{beside, orderedText, refusedText}
+use Rattle.sheet_lines.specs.Text.{orderedText, refusedText}
 use Rattle.sheet_read.specs.Sheet.{numbersAt, rootCount, tooLarge, codeCount, listsRead, sheetRead, readOf}
 use Rattle.sheet.specs.Circuit.{statesOf, nextsOf, inputCodes, gateWords, latchWords, rootCodes, recordOn, circuitOn}
 use Rattle.sheet.specs.Report.{textOf, reportOf, Ends}
@@ -116,7 +116,7 @@ pub pinned :
     ≡ bytes "refused 4 4294967296\n")
     × (reportOf (0x01 ∷ 0x01 ∷ 0x00 ∷ 0x00 ∷ 0x00 ∷ 0x00 ∷ 0x00 ∷ 0x00 ∷ 0x00 ∷ 0x00 ∷ 0x04 ∷ []) ≡ bytes "refused 4 4\n")
     × (reportOf (0x01 ∷ 0x02 ∷ 0x00 ∷ 0x00 ∷ 0x00 ∷ 0x00 ∷ 0x00 ∷ 0x00 ∷ 0x00 ∷ 0x00 ∷ 0x02 ∷ 0x03 ∷ []) ≡ bytes "refused 5 3\n")
-unfolding reportOf readOf sheetRead listsRead numbersAt binaryAt goOnAt tooLarge rootCount codeCount circuitOn isOdd renumber codes refusedText beside
+unfolding reportOf readOf sheetRead listsRead numbersAt binaryAt goOnAt tooLarge rootCount codeCount circuitOn isOdd renumber codes refusedText
     refusedLine digitsOf
 pinned = (refl, refl, refl, refl, refl, refl, refl, refl, refl, refl, refl, refl)
 
@@ -146,7 +146,7 @@ pub refusals-pinned :
     × (reportOf (sheet 0 inputs (20 ∷ 2 ∷ 17 ∷ 13 ∷ 4 ∷ 2 ∷ 16 ∷ 20 ∷ 1 ∷ 18 ∷ 10 ∷ 9 ∷ 22 ∷ 18 ∷ 13 ∷ []) latches roots) ≡ bytes "refused 8 17\n")
 unfolding reportOf readOf sheetRead listsRead numbersAt binaryAt goOnAt tooLarge rootCount codeCount circuitOn isOdd renumber codes walkAll walked start
     store flipped walk look imageIn entryImage throughInputs settle settleOn settleAs already nextCode firstCode folded codeOf orderedOf imagesIn textOf
-    orderedText orderedLine gateLine imageLine refusedText beside refusedLine digitsOf
+    orderedText orderedLine gateLine imageLine refusedText refusedLine digitsOf
 refusals-pinned = (refl, refl, refl, refl, refl, refl, refl, refl, refl, refl, refl, refl, refl, refl)
 
 -- twenty zeros and whatever follows them: 60,000 bytes are too many for the empty circuit, and 60,001 for any

@@ -8,7 +8,7 @@ use native.Mathlib.Omega.{arith}
 use lib.Dec.{ltb}
 use lib.ListN.{length, length-append, length-map}
 use Rattle.token.specs.Format.{digitsUpTo, digitsOf}
-use Rattle.circuit.specs.Refusals.{refusalNumber}
+use Rattle.circuit.specs.Refusals.{refusalNumber, refusalLiteral}
 use Rattle.circuit.specs.Graph.{Gate}
 use Rattle.circuit.specs.Map.{imageIn, codeOf}
 use Rattle.circuit.specs.Walk.{Pair, Out, reached, stopped, firstCode}
@@ -23,7 +23,7 @@ use Rattle.sheet_read.specs.declared.Reading.the-variants.{Whole, Faulty}
 use Rattle.sheet_lines.specs.Lines.{spaced, ended, refusedLine, orderedLine, gateLine, imageLine, nextLetter, rootLetter, each}
 use Rattle.sheet_read.specs.Sheet.{codeCount, readOf}
 use Rattle.sheet.specs.Circuit.{statesOf, nextsOf, inputCodes, gateWords, latchWords, rootCodes, circuitOn}
-use Rattle.sheet_lines.specs.Text.{refusedText, orderedText, beside}
+use Rattle.sheet_lines.specs.Text.{refusedText, orderedText}
 use Rattle.sheet.specs.Report.{textOf, outText, readText, reportOf}
 use Rattle.sheet_read.specs.Promise.{Taken}
 use Rattle.sheet.specs.Promise.{Shaped}
@@ -152,7 +152,7 @@ module _ (h cs : List ℕ) (taken : Taken h) (all : length cs ≡ codeCount h) w
       go (reached w) d =
           text-few (orderedOf C w) (omega (arith, d .inv .few, settled-le (w .images) (C .gates), gates-few))
           (omega (arith, images-many (w .images) (C .nexts), nexts-few)) (omega (arith, images-many (w .images) (C .roots), roots-few))
-      go (stopped why) d = omega (arith, refused-few (refusalNumber why) (beside why))
+      go (stopped why) d = omega (arith, refused-few (refusalNumber why) (refusalLiteral why .0))
 
 -- every report has room in 131,072 bytes
 pub report-fits : (s : List ℕ) → length (reportOf s) ≤ 131072

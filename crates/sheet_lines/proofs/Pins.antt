@@ -6,11 +6,11 @@ use mathlib.Core.Path.{_≡_, refl}
 use mathlib.Core.List.{List, [], _∷_}
 use Rattle.token.specs.Format.{digitsOf}
 use Rattle.lit.specs.Code.{variable, literal}
-use Rattle.circuit.specs.declared.Refusal.the-variants.{TooBig, Misshapen, Short, Over, Again, StateAgain, Undefined, Cycle, Deep}
+use Rattle.circuit.specs.declared.Refusal.the-variants.{TooBig, Misshapen, Short, Over, Again, StateAgain, Undefined, Cycle}
 use Rattle.circuit.specs.Graph.{Gate}
 use Rattle.circuit.specs.Walk.{Pair, firstCode}
 use Rattle.sheet_lines.specs.Lines.{spaced, ended, orderedWord, refusedWord, refusedLine, orderedLine, gateLine, imageLine, nextLetter, rootLetter, each}
-use Rattle.sheet_lines.specs.Text.{beside, orderedText, refusedText}
+use Rattle.sheet_lines.specs.Text.{orderedText, refusedText}
 use Rattle.sheet_lines.specs.Promise.{Put}
 
 -- a text as bytes, a byte a character, since all of them are ASCII
@@ -58,7 +58,7 @@ pub success-pinned :
 unfolding orderedText orderedLine gateLine imageLine digitsOf firstCode
 success-pinned = refl
 
--- 3. The line of each refusal: 1 to 3 have no literal; 4 to 8 have it; 9 is printed with 0.
+-- 3. The line of each refusal: 1 to 3 have no literal; 4 to 8 have it.
 
 pub refusals-pinned :
     (refusedText TooBig ≡ bytes "refused 1 0\n")
@@ -69,10 +69,8 @@ pub refusals-pinned :
     × (refusedText (StateAgain (literal 11)) ≡ bytes "refused 6 11\n")
     × (refusedText (Undefined (literal 15)) ≡ bytes "refused 7 15\n")
     × (refusedText (Cycle (literal 17)) ≡ bytes "refused 8 17\n")
-    × (refusedText (Deep (literal 18)) ≡ bytes "refused 9 0\n")
-    × (beside (Cycle (literal 17)) ≡ 17) × (beside (Deep (literal 18)) ≡ 0)
-unfolding refusedText beside refusedLine digitsOf
-refusals-pinned = (refl, refl, refl, refl, refl, refl, refl, refl, refl, refl, refl)
+unfolding refusedText refusedLine digitsOf
+refusals-pinned = (refl, refl, refl, refl, refl, refl, refl, refl)
 
 -- 4. The word of the contracts: two bytes put at place 1 of five stand there and the others stay, and the place after them is 3; past the end nothing is
 -- written, and the place goes on. Two outcomes that it allows are what it says, and it allows them.

@@ -1,8 +1,6 @@
 -- The text of an answer: its lines, one after the other. Assumes nothing.
 use Prim.Native.Nat.{ℕ, _+_}
-use mathlib.Core.Bool.{cond}
 use mathlib.Core.List.{List, _++_}
-use lib.Dec.{leb}
 use lib.ListN.{length}
 use Rattle.circuit.specs.declared.Refusal.{Refusal}
 use Rattle.circuit.specs.declared.Summary.{Summary}
@@ -10,10 +8,6 @@ use Rattle.circuit.specs.Refusals.{refusalNumber, refusalLiteral}
 use Rattle.circuit.specs.Walk.{Pair, firstCode}
 use Rattle.circuit.specs.Ordered.{gatesFrom}
 use Rattle.sheet_lines.specs.Lines.{refusedLine, orderedLine, gateLine, imageLine, nextLetter, rootLetter, each}
-
--- what is printed beside a refusal's number: the literal for 4 to 8, else 0
-unfoldable pub beside : Refusal → ℕ
-beside why = cond (leb (refusalNumber why) 8) (refusalLiteral why .0) 0
 
 -- a success, by its summary, the number of inputs, the images of next states, the gates made and the images of roots: the first line, then a gate a
 -- line, next states, roots
@@ -23,5 +17,6 @@ orderedText s inputs nexts gates roots =
     ++ (each gateLine (gatesFrom (firstCode (inputs + length nexts)) gates)
     ++ (each (imageLine nextLetter) nexts ++ each (imageLine rootLetter) roots))
 
+-- a refusal, and the literal at fault; 0 beside 1 to 3
 unfoldable pub refusedText : Refusal → List ℕ
-refusedText why = refusedLine (refusalNumber why) (beside why)
+refusedText why = refusedLine (refusalNumber why) (refusalLiteral why .0)

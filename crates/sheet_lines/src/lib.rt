@@ -121,14 +121,11 @@ pub fn print_ordered(
     put_images(out, after_nexts, b'r', roots)
 }
 
-// Prints a refusal of renumbering, with the literal for 4 to 8.
+// Prints a refusal of renumbering, with the literal for 4 to 8, and 0 for 1 to 3.
 pub fn print_refused(why: Refusal, out: &mut [u8]) -> usize
     ensures { λ r. ⌜ Put (now (out .entry)) 0 (refusedText why) (now (out .exit)) r ⌝ }
 {
     let number = refusals::number(why);
-    if number <= 8 {
-        let l = refusals::literal(why);
-        return put_refused(out, wide(number), wide(l.code()));
-    }
-    put_refused(out, wide(number), 0)
+    let l = refusals::literal(why);
+    put_refused(out, wide(number), wide(l.code()))
 }

@@ -1,6 +1,6 @@
 //! Document 01's renumbering written from its words and not from the crate: checks 5 and 6, the walk
-//! with one stack word an entry and at most 2G of them, images read again from the map. Where it and the
-//! crate differ, document 01 and the crate differ.
+//! with one stack word an entry, images read again from the map. Where it and the crate differ, document 01
+//! and the crate differ. Two entries a gate are enough (document 02's Q-6): where they are not, it panics.
 use crate::{
     circuit::Circuit,
     sheet::{self, Refused},
@@ -148,7 +148,7 @@ impl Walk {
         }
     }
 
-    /// The tests before a literal without image goes on the stack: 8, 7, 9. Its gate, if none fails.
+    /// The tests before a literal without image goes on the stack: 8, 7. Its gate, if none fails; there is room for it.
     fn enter(&self, stack: &[(u32, bool)], literal: u32) -> Result<usize, Refused> {
         let refused = |number| Refused(number, literal as u64);
         match stack.get(stack.len() / 2) {
@@ -156,10 +156,8 @@ impl Walk {
             _ => (),
         }
         let gate = self.gate_of[variable(literal)].ok_or_else(|| refused(7))?;
-        match stack.len() == 2 * self.gates.len() {
-            true => Err(refused(9)),
-            false => Ok(gate),
-        }
+        assert!(stack.len() < 2 * self.gates.len(), "two entries a gate are not enough");
+        Ok(gate)
     }
 
     /// Gives a gate whose inputs have images its own.

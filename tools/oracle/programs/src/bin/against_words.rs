@@ -60,6 +60,9 @@ impl Tally {
             Err(words) => self.disagree(words),
         }
         let (height, room) = (walk_words::deepest(circuit), 2 * circuit.gates.len());
+        if height > room {
+            self.disagree(format!("the crate's stack has {height} entries, and {room} are two a gate"));
+        }
         let (highest, its_room) = self.deepest.unwrap_or((0, 1));
         if height * its_room >= highest * room {
             self.deepest = Some((height, room));

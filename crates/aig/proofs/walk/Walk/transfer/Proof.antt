@@ -3,7 +3,7 @@ use Rattle.aig.proofs.walk.Walk.transfer.Statement.{statement}
 use Rattle.aig.proofs.walk.Walk.transfer.Tie as tie
 use native.Mathlib.Omega.{arith}
 use mathlib.Core.Path.{refl, sym, _∙_}
-use Rattle.aig.proofs.Transferring.{transfer-mapped, transfer-cycle, transfer-undefined, transfer-deep, transfer-enter, as-transfer}
+use Rattle.aig.proofs.Transferring.{transfer-mapped, transfer-cycle, transfer-undefined, transfer-room, transfer-enter, as-transfer}
 use Rattle.aig.proofs.Reading.{transfer-reads, transfer-depth}
 
 image-requires : tie.Need-image-requires
@@ -60,56 +60,42 @@ returns-3 c =
     λ out sources o k. transfer-undefined k (sym (imageAt .image .ensures) ∙ enumToldAt .enum-told .given .1)
     (sym (middleAt .middle .ensures) ∙ if1At .if1 .left) (sym (gateOfAt .gate-of .ensures) ∙ c .enum-told2 .given .1)
 
-mul-if2 : tie.Need-mul-if2
-mul-if2 c =
-    let entry = c .before .before .before .before .before .before .before .before .before .before .before .before .before .before .before in
-    record { fits = omega (arith, transfer-reads (entry .pre .1) .room .gates) }
-
-same-length-3 : tie.Need-same-length-3
-same-length-3 c = refl
-
-returns-4 : tie.Need-returns-4
-returns-4 c =
-    let numberAt = c .before .before .before .before in
+push-requires : tie.Need-push-requires
+push-requires c κs =
+    let numberAt = c .before .before in
     let gateOfAt = numberAt .before .before in
     let if1At = gateOfAt .before .before in
     let middleAt = if1At .before in
     let enumToldAt = middleAt .before .before in
     let imageAt = enumToldAt .before .before in
-    λ out sources o k. transfer-deep k (sym (imageAt .image .ensures) ∙ enumToldAt .enum-told .given .1)
-    (sym (middleAt .middle .ensures) ∙ if1At .if1 .left) (sym (gateOfAt .gate-of .ensures) ∙ numberAt .number .given .1) (c .if2 .taken)
-
-push-requires : tie.Need-push-requires
-push-requires c κs =
-    let entry =
-    c .before .before .before .before .before .before .before .before .before .before .before .before .before .before
-    .before .before .before .before in
-    let p = entry .pre in
-    (transfer-reads (p .1) .room, omega (arith, transfer-depth (p .1), c .before .if2 .left), transfer-reads (p .1) .code)
+    let p = imageAt .before .before .before .before .pre in
+    let room =
+    transfer-room (p .1 .going) (sym (imageAt .image .ensures) ∙ enumToldAt .enum-told .given .1) (sym (middleAt .middle .ensures) ∙ if1At .if1 .left)
+    (sym (gateOfAt .gate-of .ensures) ∙ numberAt .number .given .1) in
+    (transfer-reads (p .1) .room, room, transfer-reads (p .1) .code)
 
 deeper-requires : tie.Need-deeper-requires
 deeper-requires c κs =
     let entry =
     c .before .before .before .before .before .before .before .before .before .before .before .before .before .before
-    .before .before .before .before .before .before .before in
+    .before .before .before .before in
     let p = entry .pre in
     omega (arith, transfer-depth (p .1), transfer-reads (p .1) .room .gates)
 
 first-of-requires : tie.Need-first-of-requires
 first-of-requires c κs =
-    let numberAt = c .before .before .before .before .before .before .before .before .before in
+    let numberAt = c .before .before .before .before .before .before in
     let gateOfAt = numberAt .before .before in
     let entry = gateOfAt .before .before .before .before .before .before .before .before .before .before .before in
     transfer-reads (entry .pre .1) .number _ (sym (gateOfAt .gate-of .ensures) ∙ numberAt .number .given .1)
 
-same-length-4 : tie.Need-same-length-4
-same-length-4 c = c .before .before .before .before .push .kept .0
+same-length-3 : tie.Need-same-length-3
+same-length-3 c = c .before .before .before .before .push .kept .0
 
-returns-5 : tie.Need-returns-5
-returns-5 c =
+returns-4 : tie.Need-returns-4
+returns-4 c =
     let pushAt = c .before .before .before .before in
-    let if2At = pushAt .before .before in
-    let numberAt = if2At .before .before .before .before in
+    let numberAt = pushAt .before .before .before in
     let gateOfAt = numberAt .before .before in
     let if1At = gateOfAt .before .before in
     let middleAt = if1At .before in
@@ -117,7 +103,7 @@ returns-5 c =
     let imageAt = enumToldAt .before .before in
     λ out sources o k. as-transfer (c .before .deeper .ensures) (c .first-of .ensures) (pushAt .push .ensures)
     (transfer-enter k (sym (imageAt .image .ensures) ∙ enumToldAt .enum-told .given .1) (sym (middleAt .middle .ensures) ∙ if1At .if1 .left)
-    (sym (gateOfAt .gate-of .ensures) ∙ numberAt .number .given .1) (if2At .if2 .left))
+    (sym (gateOfAt .gate-of .ensures) ∙ numberAt .number .given .1))
 
 pub transfer-spec : {M : Type 1} → statement M
 transfer-spec =
@@ -135,11 +121,8 @@ transfer-spec =
     enum-told-2
     same-length-2
     returns-3
-    mul-if2
-    same-length-3
-    returns-4
     push-requires
     deeper-requires
     first-of-requires
-    same-length-4
-    returns-5)
+    same-length-3
+    returns-4)

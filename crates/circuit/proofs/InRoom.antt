@@ -1,6 +1,5 @@
--- The walk never runs out of room: refusal 9 is not given. On a path each literal's variable decides the next literal, since the map does not
--- change what is open on the path; so a path with 2G entries has come round a cycle, and the test of the middle entry would have stopped it before.
--- Assumes nothing.
+-- The walk never runs out of room. On a path each literal's variable decides the next literal, since the map does not change what is open on the path;
+-- so a path with 2G entries has come round a cycle, and the test of the middle entry would have stopped it before. Assumes nothing.
 use Prim.Native.Nat.{ℕ, zero, suc, _+_, _*_, _-_, _/_, _<_, _≤_}
 use mathlib.Core.Path.{_≡_, refl, sym, _∙_, ap, subst, subst⁻¹}
 use mathlib.Core.Logic.{_⊎_, inl, inr, _≢_}
@@ -10,19 +9,18 @@ use native.Mathlib.Omega.{arith}
 use lib.Dec.{eqb}
 use lib.ListN.{length, getD, take, length-append, length-map, length-take, List·getD-append, List·getD-map}
 use lib.Seq.{getD-append-seam, getD-take}
-use Rattle.lit.specs.Code.{var, literal}
-use Rattle.circuit.specs.declared.Refusal.the-variants.{Deep}
+use Rattle.lit.specs.Code.{var}
 use Rattle.circuit.specs.Refusals.{refusalNumber}
 use Rattle.circuit.specs.Graph.{In, Distinct, Gate, outVar, DefinedOnce, Step, toFirst, toSecond, here}
 use Rattle.circuit.specs.Map.{noImage}
-use Rattle.circuit.specs.Walk.{Net, Work, Out, reached, stopped, Look, look, answer, andThen, throughInputs, walk, stackRoom, walkAll, settle}
+use Rattle.circuit.specs.Walk.{Net, Work, Out, reached, stopped, Look, look, answer, andThen, throughInputs, noRoom, walk, stackRoom, walkAll, settle}
 use Rattle.circuit.specs.Circuit.{elem}
 use Rattle.circuit.proofs.Tests.{lt-or, last-or, Same, same, other, sameTest}
 use Rattle.circuit.proofs.Lists.{In-cases, In-getD, In-map, In-unmap, pigeons, Elem, inside, outside, elemTest}
 use Rattle.circuit.proofs.Graph.{one-gate, Reach-join, Plus, Plus-step}
 use Rattle.circuit.proofs.Invariant.{Grown}
 use Rattle.circuit.proofs.Walk.{Looking, hasImage, onPath, isUndefined, atGate, looking, Post, walk-ok}
-use Rattle.circuit.specs.Invariant.{Sized, Inv, entry}
+use Rattle.circuit.specs.Invariant.{Sized, Inv, InRoom, entry}
 
 -- two places of a list hold the same number
 data Dup (xs : List ℕ) : Type 0 where
@@ -148,10 +146,6 @@ still-open⁺ N top w w′ u v i r s e = go (eqb (entry (w′ .images) u) noImag
     go false (other n) =
         absurd (i .grounded u n .noLoop u (here refl) (record { next = s .next; step = s .step; back = Reach-join (s .rest) (r .news u e n) }))
 
-abbrev pub NotDeep : Out → Type 0
-NotDeep (reached w) = Unit {0}
-NotDeep (stopped r) = refusalNumber r ≢ 9
-
 module _ (N : Net) (top : ℕ) (once : DefinedOnce (N .graph)) (sized : Sized N top) where
   -- one entry more
   module _ (w w′ : Work) (path : List ℕ) (c : ℕ) (o : Orbit N w path c) (isOpen : entry (w .images) (var c) ≡ noImage)
@@ -234,7 +228,8 @@ module _ (N : Net) (top : ℕ) (once : DefinedOnce (N .graph)) (sized : Sized N 
     unfolding seen
     seen-var i h = List·getD-map var seen i 0 ∙ ap var (getD-take (suc (length (N .graph .gates))) (path ++ (c ∷ [])) i 0 h)
 
-    next : (i j : ℕ) → i < stackRoom N → j < stackRoom N → var (nth path c i) ≡ var (nth path c j) → nth path c (suc i) ≡ nth path c (suc j)
+    next : (i j : ℕ) → i < 2 * length (N .graph .gates) → j < 2 * length (N .graph .gates) → var (nth path c i) ≡ var (nth path c j)
+        → nth path c (suc i) ≡ nth path c (suc j)
     next i j h k e =
         Nx-same N once w (nth path c i) (nth path c j) (nth path c (suc i)) (nth path c (suc j)) e (o .chain i (omega arith)) (o .chain j (omega arith))
 
@@ -249,7 +244,7 @@ module _ (N : Net) (top : ℕ) (once : DefinedOnce (N .graph)) (sized : Sized N 
     orbit-full : ⊥
     orbit-full = go (distinct-or (map var seen))
       where
-        met : (k : ℕ) × (0 < k) × (2 * k ≤ stackRoom N) × (nth path c k ≡ nth path c (2 * k)) → ⊥
+        met : (k : ℕ) × (0 < k) × (2 * k ≤ 2 * length (N .graph .gates)) × (nth path c k ≡ nth path c (2 * k)) → ⊥
         met r =
             all-tested (2 * r .0) (omega (arith, r .1)) (last-or (length path) (2 * r .0) (omega (arith, r .2)))
             (ap (nth path c) (let e : 2 * r .0 / 2 ≡ r .0 = omega arith in e) ∙ r .3)
@@ -261,21 +256,22 @@ module _ (N : Net) (top : ℕ) (once : DefinedOnce (N .graph)) (sized : Sized N 
             (round (nth path c) (length (N .graph .gates)) next i j l (omega (arith, seen-length))
             (sym (seen-var i (omega (arith, seen-length))) ∙ e ∙ seen-var j (omega (arith, seen-length))))
 
-  abbrev Nine : (path : List ℕ) (w : Work) (c : ℕ) → Out → Type 0
-  Nine path w c (reached w′) = Unit {0}
-  Nine path w c (stopped r) = (entry (w .images) (var c) ≡ noImage → Orbit N w path c) → refusalNumber r ≢ 9
+  -- where the path is one that the walk makes, there was room
+  abbrev RoomFor : (path : List ℕ) (w : Work) (c : ℕ) → Out → Type 0
+  RoomFor path w c (reached w′) = Unit {0}
+  RoomFor path w c (stopped r) = (entry (w .images) (var c) ≡ noImage → Orbit N w path c) → refusalNumber r ≢ 1
 
-  answer-nine : (path : List ℕ) (w : Work) (c : ℕ) (go : Gate → Out)
+  answer-fits : (path : List ℕ) (w : Work) (c : ℕ) (go : Gate → Out)
       → ((g : Gate) → entry (w .images) (var c) ≡ noImage → In g (N .graph .gates) → outVar g ≡ var c
-      → (0 < length path → getD path (length path / 2) 0 ≢ c) → Nine path w c (go g))
-      → (l : Look) → Looking N path w c l → Nine path w c (answer l w go)
-  answer-nine path w c go f l (hasImage n) = tt
-  answer-nine path w c go f l (onPath h) = λ o e. omega arith
-  answer-nine path w c go f l (isUndefined e n) = λ o e′. omega arith
-  answer-nine path w c go f l (atGate g e h k q) = f g e h k q
+      → (0 < length path → getD path (length path / 2) 0 ≢ c) → RoomFor path w c (go g))
+      → (l : Look) → Looking N path w c l → RoomFor path w c (answer l w go)
+  answer-fits path w c go f l (hasImage n) = tt
+  answer-fits path w c go f l (onPath h) = λ o e. omega arith
+  answer-fits path w c go f l (isUndefined e n) = λ o e′. omega arith
+  answer-fits path w c go f l (atGate g e h k q) = f g e h k q
 
   module _ (path : List ℕ) (c : ℕ) (rec : Work → ℕ → Out) (rec-ok : (w : Work) (a : ℕ) → Inv N top w → Post N top (path ++ (c ∷ [])) w a (rec w a))
-      (rec-nine : (w : Work) (a : ℕ) → Inv N top w → Nine (path ++ (c ∷ [])) w a (rec w a))
+      (rec-fits : (w : Work) (a : ℕ) → Inv N top w → RoomFor (path ++ (c ∷ [])) w a (rec w a))
       (g : Gate) (isGate : In g (N .graph .gates)) (names : outVar g ≡ var c) (clear : 0 < length path → getD path (length path / 2) 0 ≢ c)
       (w : Work) (i : Inv N top w) (isOpen : entry (w .images) (var c) ≡ noImage) where
     opens : Orbit N w path c → (p : ℕ) → In p path ⊎ In p (c ∷ []) → entry (w .images) (var p) ≡ noImage
@@ -292,10 +288,10 @@ module _ (N : Net) (top : ℕ) (once : DefinedOnce (N .graph)) (sized : Sized N 
         record { next = var (g .first); step = subst⁻¹ (λ (v : ℕ). Step (N .graph) (var v) (var (g .first))) k to-first; rest = here refl }
     pluses o p (inr (inr k)) = absurd k
 
-    second-nine : (w₁ : Work) → Inv N top w₁ → Grown (N .graph) w w₁ (var (g .first)) → entry (w₁ .images) (var (g .first)) ≢ noImage
-        → (out : Out) → Nine (path ++ (c ∷ [])) w₁ (g .second) out → Nine path w c (andThen out (λ w₂. reached (settle N w₂ g)))
-    second-nine w₁ i₁ r n (reached w₂) p = tt
-    second-nine w₁ i₁ r n (stopped k) p =
+    second-fits : (w₁ : Work) → Inv N top w₁ → Grown (N .graph) w w₁ (var (g .first)) → entry (w₁ .images) (var (g .first)) ≢ noImage
+        → (out : Out) → RoomFor (path ++ (c ∷ [])) w₁ (g .second) out → RoomFor path w c (andThen out (λ w₂. reached (settle N w₂ g)))
+    second-fits w₁ i₁ r n (reached w₂) p = tt
+    second-fits w₁ i₁ r n (stopped k) p =
         λ o.
         p (λ e.
         orbit-more w w₁ path c (o isOpen) isOpen g isGate names clear (λ v m z. m (sym (r .keeps v m) ∙ z))
@@ -304,35 +300,35 @@ module _ (N : Net) (top : ℕ) (once : DefinedOnce (N .graph)) (sized : Sized N 
         still-open⁺ N top w w₁ (var q) (var (g .first)) i₁ r (pluses (o isOpen) q cases) (opens (o isOpen) q cases))
         (g .second) (toSecond g isGate names refl) (bySecond g isGate names n refl))
 
-    first-nine : (out : Out) → Post N top (path ++ (c ∷ [])) w (g .first) out → Nine (path ++ (c ∷ [])) w (g .first) out
-        → Nine path w c (andThen out (λ w₁. andThen (rec w₁ (g .second)) (λ w₂. reached (settle N w₂ g))))
-    first-nine (stopped k) p q =
+    first-fits : (out : Out) → Post N top (path ++ (c ∷ [])) w (g .first) out → RoomFor (path ++ (c ∷ [])) w (g .first) out
+        → RoomFor path w c (andThen out (λ w₁. andThen (rec w₁ (g .second)) (λ w₂. reached (settle N w₂ g))))
+    first-fits (stopped k) p q =
         λ o.
         q (λ e.
         orbit-more w w path c (o isOpen) isOpen g isGate names clear (λ v m. m) (λ x h. opens (o isOpen) x (In-cases x path (c ∷ []) h))
         (g .first) to-first (byFirst g isGate names e refl))
-    first-nine (reached w₁) p q = second-nine w₁ (p .0) (p .1) (p .2) (rec w₁ (g .second)) (rec-nine w₁ (g .second) (p .0))
+    first-fits (reached w₁) p q = second-fits w₁ (p .0) (p .1) (p .2) (rec w₁ (g .second)) (rec-fits w₁ (g .second) (p .0))
 
-    through-nine : Nine path w c (throughInputs N rec g w)
+    through-fits : RoomFor path w c (throughInputs N rec g w)
     unfolding throughInputs
-    through-nine = first-nine (rec w (g .first)) (rec-ok w (g .first) i) (rec-nine w (g .first) i)
+    through-fits = first-fits (rec w (g .first)) (rec-ok w (g .first) i) (rec-fits w (g .first) i)
 
-  walk-nine : (room : ℕ) (path : List ℕ) (w : Work) (c : ℕ) → room + length path ≡ stackRoom N → Inv N top w → Nine path w c (walk N room path w c)
+  walk-fits : (room : ℕ) (path : List ℕ) (w : Work) (c : ℕ) → room + length path ≡ stackRoom N → Inv N top w → RoomFor path w c (walk N room path w c)
   unfolding walk
-  walk-nine zero path w c e i =
-      answer-nine path w c (λ g. stopped (Deep (literal c))) (λ g op h k q o z. orbit-full w path c (o op) (omega arith) g h k q) (look N path w c)
+  walk-fits zero path w c e i =
+      answer-fits path w c (λ g. noRoom) (λ g op h k q o z. orbit-full w path c (o op) (omega arith) g h k q) (look N path w c)
       (looking N path w c)
-  walk-nine (suc room) path w c e i =
-      answer-nine path w c (λ g. throughInputs N (λ w′ c′. walk N room (path ++ (c ∷ [])) w′ c′) g w)
+  walk-fits (suc room) path w c e i =
+      answer-fits path w c (λ g. throughInputs N (λ w′ c′. walk N room (path ++ (c ∷ [])) w′ c′) g w)
       (λ g op h k q.
-      through-nine path c (λ w′ c′. walk N room (path ++ (c ∷ [])) w′ c′)
+      through-fits path c (λ w′ c′. walk N room (path ++ (c ∷ [])) w′ c′)
       (λ w′ a i′. walk-ok N top once sized room (path ++ (c ∷ [])) w′ a i′)
-      (λ w′ a i′. walk-nine room (path ++ (c ∷ [])) w′ a (omega (arith, length-append path (c ∷ []))) i′) g h k q w i op)
+      (λ w′ a i′. walk-fits room (path ++ (c ∷ [])) w′ a (omega (arith, length-append path (c ∷ []))) i′) g h k q w i op)
       (look N path w c) (looking N path w c)
 
-  one-nine : (c : ℕ) (cs : List ℕ) (w : Work) → ((w₁ : Work) → Inv N top w₁ → NotDeep (walkAll N cs w₁)) → (o : Out) → Post N top [] w c o → Nine [] w c o
-      → NotDeep (andThen o (λ w₁. walkAll N cs w₁))
-  one-nine c cs w rec (stopped r) p q =
+  on-no-path : (w : Work) (c : ℕ) (o : Out) → RoomFor [] w c o → InRoom o
+  on-no-path w c (reached w₁) q = tt
+  on-no-path w c (stopped r) q =
       q (λ e.
       record {
         isOpen = λ x h. absurd h;
@@ -341,11 +337,18 @@ module _ (N : Net) (top : ℕ) (once : DefinedOnce (N .graph)) (sized : Sized N 
         chain = λ i h. absurd (omega arith);
         tested = λ i h k. absurd (omega arith);
       })
-  one-nine c cs w rec (reached w₁) p q = rec w₁ (p .0)
 
-  pub never-nine : (cs : List ℕ) (w : Work) → Inv N top w → NotDeep (walkAll N cs w)
+  -- two entries a gate are room enough for the walk of a literal
+  pub walk-in-room : (w : Work) → Inv N top w → (c : ℕ) → InRoom (walk N (stackRoom N) [] w c)
+  walk-in-room w i c = on-no-path w c (walk N (stackRoom N) [] w c) (walk-fits (stackRoom N) [] w c (omega arith) i)
+
+  one-in-room : (c : ℕ) (cs : List ℕ) (w : Work) → ((w₁ : Work) → Inv N top w₁ → InRoom (walkAll N (stackRoom N) cs w₁)) → (o : Out) → Post N top [] w c o
+      → InRoom o → InRoom (andThen o (λ w₁. walkAll N (stackRoom N) cs w₁))
+  one-in-room c cs w rec (stopped r) p q = q
+  one-in-room c cs w rec (reached w₁) p q = rec w₁ (p .0)
+
+  pub all-in-room : (cs : List ℕ) (w : Work) → Inv N top w → InRoom (walkAll N (stackRoom N) cs w)
   unfolding walkAll
-  never-nine [] w i = tt
-  never-nine (c ∷ cs) w i =
-      one-nine c cs w (λ w₁ i₁. never-nine cs w₁ i₁) (walk N (stackRoom N) [] w c)
-      (walk-ok N top once sized (stackRoom N) [] w c i) (walk-nine (stackRoom N) [] w c (omega arith) i)
+  all-in-room [] w i = tt
+  all-in-room (c ∷ cs) w i =
+      one-in-room c cs w (λ w₁ i₁. all-in-room cs w₁ i₁) (walk N (stackRoom N) [] w c) (walk-ok N top once sized (stackRoom N) [] w c i) (walk-in-room w i c)
