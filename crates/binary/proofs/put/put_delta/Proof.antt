@@ -22,7 +22,7 @@ same-length c = search needs
 returns : tie.Need-returns
 returns c =
     let a = c .before .args in
-    delta-1 (now (a .out)) (a .at) (a .d) (c .if1 .taken)
+    delta-1 (now (a .out)) (a .at) (a .d) (omega arith)
 
 add-out : tie.Need-add-out
 add-out c = search needs
@@ -51,7 +51,7 @@ same-length-2 c = search needs
 returns-2 : tie.Need-returns-2
 returns-2 c =
     let a = c .before .before .args in
-    delta-2 (now (a .out)) (a .at) (a .d) (c .before .if1 .left) (c .if2 .taken)
+    delta-2 (now (a .out)) (a .at) (a .d) (omega arith) (omega arith)
 
 add-out-3 : tie.Need-add-out-3
 add-out-3 c = search needs
@@ -83,7 +83,7 @@ same-length-3 c = search needs
 returns-3 : tie.Need-returns-3
 returns-3 c =
     let a = c .before .before .args in
-    delta-3 (now (a .out)) (a .at) (a .d) (c .if2 .left) (c .before .before .pre .1)
+    delta-3 (now (a .out)) (a .at) (a .d) (omega arith) (c .before .before .pre .1)
 
 pub put-delta-spec : {M : Type 1} → statement M
 put-delta-spec =
