@@ -7,8 +7,8 @@
  * of two literals and fairness constraints. `gates`: SIZE gates over two inputs, whose inputs are among the last thirty variables, so that every delta is
  * one byte. `far`: SIZE gates over two inputs, whose inputs are drawn from all that stands before. `lines`: SIZE outputs of any literal over half as many
  * inputs. `latches`: SIZE latches. `whole`: the file of mixed is read, renumbered with trim, hash and fold, and written. With `measure-` before a KIND but the
- * last no byte is lent, so that the port only checks and measures; `faulty-` makes the last gate its own input, so that it only checks
- * (port only).
+ * last no byte is lent, so that the port only checks and measures; `faulty-` makes the last gate its own input, so that it only checks;
+ * with `just-` as many bytes are lent as the file has, so that the port measures first (port only).
  * Prints the bytes written and a sum over them and their places, on which both must agree, and with a clock the milliseconds of the fastest run. Only by_port and by_crate
  * are to be counted by an instruction counter. */
 #include "imdagluz.h"
@@ -57,7 +57,8 @@ static uint32_t draw(uint32_t before, uint32_t near) {
 
 static int make(const char *kind, uint32_t size) {
     int measured = strncmp(kind, "measure-", 8) == 0, faulty = strncmp(kind, "faulty-", 7) == 0;
-    kind += measured ? 8 : faulty ? 7 : 0;
+    int just = strncmp(kind, "just-", 5) == 0;
+    kind += measured ? 8 : faulty ? 7 : just ? 5 : 0;
     whole = strcmp(kind, "whole") == 0;
     int mixed = whole || strcmp(kind, "mixed") == 0, near = strcmp(kind, "gates") == 0, far = strcmp(kind, "far") == 0;
     int lines = strcmp(kind, "lines") == 0, latched = strcmp(kind, "latches") == 0;
@@ -82,6 +83,7 @@ static int make(const char *kind, uint32_t size) {
     if (faulty && count) gates[2 * count - 2] = 2 * top;
     record = crate_ordered(inputs, counts, nexts, latches, gates, 2 * (size_t)count, sizes, sets, roots, outputs + 5 * (size_t)others);
     if (whole) file_length = crate_write(record, file, ROOM);
+    if (just) lent = crate_write(record, out, ROOM);
     return 1;
 }
 
