@@ -58,6 +58,16 @@ abbrev pub firstOver : ℕ → List ℕ → Option ℕ
 firstOver bound [] = none
 firstOver bound (c ∷ cs) = cond (leb c bound) (firstOver bound cs) (some c)
 
+-- check 22: a latch's reset is 0, 1, or the latch's own literal as written, which says that it is unset
+abbrev pub isReset : ℕ → ℕ → Bool
+isReset own r = leb r 1 || eqb r own
+
+-- the first reset of the list that is none of them, the latches' literals beside it
+abbrev pub firstStray : List ℕ → List ℕ → Option ℕ
+firstStray [] rs = none
+firstStray (s ∷ ss) [] = none
+firstStray (s ∷ ss) (r ∷ rs) = cond (isReset s r) (firstStray ss rs) (some r)
+
 -- checks 5 and 6: x is in the list
 abbrev pub elem : ℕ → List ℕ → Bool
 elem x [] = false
