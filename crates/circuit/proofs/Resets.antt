@@ -17,7 +17,7 @@ use Rattle.circuit.specs.Ordered.{carriedFrom, orderedOf}
 use Rattle.circuit.specs.Outcome.{Lent, Outcome, circuitOf, cleared, untouched, isEarly, zeros, conclusion, after, outcome}
 use Rattle.circuit.specs.Claims.{AllReset, Passes}
 use Rattle.circuit.specs.Tested.{Tested}
-use Rattle.circuit.specs.Resets.{statesAndNexts, codesBefore, renumberBefore, withResets, SameButResets}
+use Rattle.circuit.specs.Resets.{sideBySide, codesBefore, renumberBefore, withResets, SameButResets}
 use Rattle.circuit.proofs.Checks.{Stray, noneStray, oneStray, strayTest, no-stray}
 use Rattle.circuit.proofs.Outcome.{conclusion-of}
 use Rattle.circuit.proofs.Refusing.{tested}
@@ -45,7 +45,7 @@ behind : (bound : ℕ) (xs ys zs : List ℕ) → firstOver bound ys ≡ firstOve
 behind bound [] ys zs e = e
 behind bound (x ∷ xs) ys zs e = ap (λ (o : Option ℕ). cond (leb x bound) o (some x)) (behind bound xs ys zs e)
 
-latches-same : (bound : ℕ) (ss ns ys : List ℕ) → firstOver bound (latchCodes ss ns (zeros (length ss)) ++ ys) ≡ firstOver bound (statesAndNexts ss ns ++ ys)
+latches-same : (bound : ℕ) (ss ns ys : List ℕ) → firstOver bound (latchCodes ss ns (zeros (length ss)) ++ ys) ≡ firstOver bound (sideBySide ss ns ++ ys)
 latches-same bound [] ns ys = refl
 latches-same bound (s ∷ ss) [] ys = refl
 latches-same bound (s ∷ ss) (n ∷ ns) ys =
@@ -60,7 +60,7 @@ unfolding renumber renumberBefore codes codesBefore
 as-before C e =
     let bound : ℕ = 2 * C .top + 1 in
     let four : firstOver bound (C .inputs ++ (gateCodes (C .gates) ++ (latchCodes (C .states) (C .nexts) (C .resets) ++ C .roots)))
-    ≡ firstOver bound (C .inputs ++ (gateCodes (C .gates) ++ (statesAndNexts (C .states) (C .nexts) ++ C .roots)))
+    ≡ firstOver bound (C .inputs ++ (gateCodes (C .gates) ++ (sideBySide (C .states) (C .nexts) ++ C .roots)))
     = behind bound (C .inputs) _ _ (behind bound (gateCodes (C .gates)) _ _
     (ap (λ (rs : List ℕ). firstOver bound (latchCodes (C .states) (C .nexts) rs ++ C .roots)) e ∙ latches-same bound (C .states) (C .nexts) (C .roots))) in
     let none-stray : firstStray (C .states) (C .resets) ≡ none = ap (firstStray (C .states)) e ∙ zeros-none (C .states) (length (C .states)) in

@@ -7,14 +7,15 @@ use Rattle.circuit.specs.Walk.{Out}
 use Rattle.circuit.specs.Circuit.{Circuit, gateCodes, firstOver, orRefuse, numbered}
 use Rattle.circuit.specs.Outcome.{Lent, Outcome, lentOf}
 
--- check 4 as it was before latches had resets: it went through a latch's state and its next literal
-abbrev pub statesAndNexts : List ℕ → List ℕ → List ℕ
-statesAndNexts [] ns = []
-statesAndNexts (s ∷ ss) [] = []
-statesAndNexts (s ∷ ss) (n ∷ ns) = s ∷ n ∷ statesAndNexts ss ns
+-- two lists side by side, as long as both last
+abbrev pub sideBySide : List ℕ → List ℕ → List ℕ
+sideBySide [] ys = []
+sideBySide (x ∷ xs) [] = []
+sideBySide (x ∷ xs) (y ∷ ys) = x ∷ y ∷ sideBySide xs ys
 
+-- check 4 as it was before latches had resets: it went through a latch's state and its next literal
 unfoldable pub codesBefore : Circuit → List ℕ
-codesBefore C = C .inputs ++ (gateCodes (C .gates) ++ (statesAndNexts (C .states) (C .nexts) ++ C .roots))
+codesBefore C = C .inputs ++ (gateCodes (C .gates) ++ (sideBySide (C .states) (C .nexts) ++ C .roots))
 
 -- renumbering as it was: that check, and then what sees no reset
 unfoldable pub renumberBefore : Circuit → Out
