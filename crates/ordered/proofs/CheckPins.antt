@@ -6,7 +6,7 @@ use mathlib.Core.Bool.{true, false}
 use mathlib.Core.List.{List, [], _∷_}
 use native.Mathlib.Omega.{arith}
 use lib.ListN.{length, replicate, length-replicate}
-use borrow.Author.Tests.{lt-ltb, le-ltb, ne-eqb}
+use borrow.Author.Tests.{lt-ltb, le-ltb, eq-eqb, ne-eqb}
 use Rattle.lit.specs.Code.{literal}
 use Rattle.circuit.specs.Walk.{Pair, firstCode}
 use Rattle.circuit.specs.Outcome.{total}
@@ -252,7 +252,7 @@ pub many-pinned :
     × ((n : ℕ) → 1048575 < n → checked (words 0 none [] [] (replicate n 0) []) 0 ≡ Faulty TooBig)
 unfolding checked tooLarge uneven firstCode
 many-pinned = (
-  λ n h. rw (length-replicate {A = ℕ} n 0, le-ltb 1048575 (0 + n + 0) (omega arith)),
+  λ n h. rw (length-replicate {A = ℕ} n 0, length-replicate {A = ℕ} n 0, eq-eqb n n refl, le-ltb 1048575 (0 + n + 0) (omega arith)),
   λ n h. rw (length-replicate {A = ℕ} n 0, lt-ltb 1048575 (0 + n + 0) (omega arith)),
   λ n h. rw (length-replicate {A = ℕ} n 0, le-ltb 1048575 n h, ne-eqb 4294967295 n (omega arith)),
   λ n h. rw (length-replicate {A = ℕ} n 0, lt-ltb 1048575 n h),

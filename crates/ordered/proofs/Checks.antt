@@ -244,6 +244,10 @@ module _ (w : Words) (inputs : ℕ) (isInputs : inputs ≡ w .inputs) where
   pub few-words : inputs + length (w .nexts) + length (w .gates) / 2 ≤ limit → 2 * (inputs + length (w .nexts) + 1) + length (w .gates) ≤ 4294967295
   few-words h = omega arith
 
+  pub few-resets : length (w .nexts) ≡ length (w .resets) → {variables : ℕ} → variables ≡ variablesOf (circuitIn w) → variables ≤ limit
+      → 2 * (inputs + 1) + 2 * length (w .resets) ≤ 4294967295
+  few-resets e v h = omega arith
+
 -- what the code found, as the definition answers it
 firsts : (a b c : Option ℕ) → firstFault (found a) (found b) (found c) ≡ faultAt a Over (faultAt b Reset (faultAt c Disordered Checked.Fits))
 firsts (some x) b c = refl

@@ -7,7 +7,7 @@ use mathlib.Core.Path.{_∙_}
 use Rattle.ordered.proofs.Checks.{in-gates, in-latches, in-roots, in-asked, in-none}
 
 over-in-gates-requires : tie.Need-over-in-gates-requires
-over-in-gates-requires c κs = c .before .before .before .pre
+over-in-gates-requires c κs = c .before .before .before .before .pre
 
 enum-told : tie.Need-enum-told
 enum-told c = search needs
