@@ -4,7 +4,7 @@ use mathlib.Core.Path.{_≡_, refl, sym, ap, _∙_, subst}
 use mathlib.Core.Bool.{Bool, true, false, cond, _||_}
 use mathlib.Core.Logic.{_⊎_, inl, inr, _↔_}
 use mathlib.Core.List.{List, [], _∷_}
-use mathlib.Core.Option.{none}
+use mathlib.Core.Option.{none, some}
 use native.Mathlib.Omega.{arith}
 use lib.Dec.{leb, eqb}
 use lib.ListN.{length}
@@ -113,6 +113,10 @@ module _ (s : List ℕ) (most n : ℕ) (small : most ≤ 4294967295) where
       go (got v p) = ap (λ (R : Read ℕ). R ▸ λ r at₂. got (latchLine v r) at₂) (reset-word p)
       go (no why p) = refl
 
+-- the code's own literal serves for the one meant
+pub own-serves : (s : List ℕ) (most own n at : ℕ) → most ≤ 4294967295 → own ≡ wordOf n → latchAt s most n at ≡ latchAt s most own at
+own-serves s most own n at small e = sym (ap (λ (o : ℕ). latchAt s most o at) e ∙ latch-word s most n small at)
+
 -- resets that are read have no stray among them
 
 reset-may : (s : List ℕ) (most own at r end : ℕ) → resetAt s most own at ≡ got r end → isReset own r ≡ true
@@ -145,7 +149,7 @@ row-no-stray s most first k (suc n) at ls end e =
     let later : first + 2 * suc k ≡ first + 2 * k + 2 = omega arith in
     let may = latch-may s most (first + 2 * k) at (t .first) (t .place) (t .read) in
     ap (λ (x : List LatchLine). firstStray (countFrom (first + 2 * k) (suc n)) (resetsOf x)) (sym (got-same (u .then)))
-    ∙ ap (λ (b : Bool). cond b (firstStray (countFrom (first + 2 * k + 2) n) (resetsOf (u .first))) _) may
+    ∙ ap (λ (b : Bool). cond b (firstStray (countFrom (first + 2 * k + 2) n) (resetsOf (u .first))) (some (t .first .reset))) may
     ∙ ap (λ (c : ℕ). firstStray (countFrom c n) (resetsOf (u .first))) (sym later) ∙ rest
 
 pub latches-no-stray : (s : List ℕ) (most first n at : ℕ) (ls : List LatchLine) (end : ℕ) → latchesAt s most first n at ≡ got ls end

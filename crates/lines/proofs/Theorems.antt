@@ -3,7 +3,7 @@ use mathlib.Core.Path.{sym, ap, _∙_}
 use denote.Ref.{now}
 use Rattle.promise.specs.Determined.{Determines, DeterminesCells}
 use Rattle.lines.specs.Sections.{Roots, rootsOf}
-use Rattle.lines.specs.Promise.{Left}
+use Rattle.lines.specs.Promise.{LatchLists, latchLists, LatchesLeft, Left}
 use Rattle.lines.proofs.fault_number.Kinds as number-kinds
 use Rattle.lines.proofs.fault_number.Reads as number-contract
 use Rattle.lines.proofs.latches.Kinds as latches-kinds
@@ -16,8 +16,9 @@ use Rattle.lines.proofs.roots.Reads as roots-contract
 pub one-fault-number : Determines 0 number-kinds.ps number-kinds.r number-contract.Learnt
 one-fault-number κs a x y e f p q = p ∙ sym q
 
-pub one-latches : DeterminesCells 2 latches-kinds.ps latches-kinds.r latches-contract.Learnt (λ κs e. now (e .1 .1 .1 .1 .0))
-one-latches κs a x y e f p q = (p .0 ∙ sym (q .0), p .1 ∙ sym (q .1))
+pub one-latches : DeterminesCells 3 latches-kinds.ps latches-kinds.r latches-contract.Learnt {A = LatchLists}
+    (λ κs e. latchLists (now (e .1 .1 .1 .1 .1 .0)) (now (e .1 .1 .1 .1 .1 .1 .0)))
+one-latches κs a x y e f p q = (ap (λ (o : LatchesLeft). o .answer) (p ∙ sym q), ap (λ (o : LatchesLeft). o .lists) (p ∙ sym q))
 
 pub one-read-header : Determines 1 header-kinds.ps header-kinds.r header-contract.Learnt
 one-read-header κs a x y e f p q = p ∙ sym q
