@@ -131,8 +131,26 @@ pub resets-pinned :
     × (latchAt (50 ∷ 32 ∷ 10 ∷ []) 5 4 0 ≡ no (Number NoDigit) 2)
 unfolding digitsOf digitsAt uintAt headerFieldAt isByte byteAt numberAt resetLineAt resetAt latchAt
 resets-pinned = (
-  refl, refl, refl, refl, refl, refl, refl, refl, refl, refl,
-  refl, refl, refl, refl, refl, refl, refl, refl, refl, refl,
+  refl,
+  refl,
+  refl,
+  refl,
+  refl,
+  refl,
+  refl,
+  refl,
+  refl,
+  refl,
+  refl,
+  refl,
+  refl,
+  refl,
+  refl,
+  refl,
+  refl,
+  refl,
+  refl,
+  refl,
 )
 
 pub latches-pinned :

@@ -14,11 +14,13 @@ use Rattle.circuit.specs.Ordered.{countFrom}
 use Rattle.token.specs.Answer.{headerFieldAt}
 use Rattle.token.specs.declared.Token.{Token}
 use Rattle.token.specs.declared.Token.the-variants.{Value, Refused}
+use Rattle.lines.specs.declared.Fault.{Fault}
 use Rattle.lines.specs.declared.Fault.the-variants.{Number, Missing, Reset}
 use Rattle.lines.specs.Reading.{Read, got, no, _▸_, rowAt}
 use Rattle.lines.specs.Lines.{isByte, byteAt, spaceAt, newlineAt, numberOf, numberAt, lineAt}
 use Rattle.lines.specs.Lines.{LatchLine, latchLine, resetsOf, resetLineAt, resetAt, latchAt, latchesAt, wordOf}
 use Rattle.lines.specs.Spelling.{Allowed}
+use Rattle.lines.specs.Stray.{Stray}
 use Rattle.lines.proofs.Answers.{byte-is}
 use Rattle.lines.proofs.Heads.{two, got-same, number-within}
 
@@ -158,3 +160,100 @@ unfolding latchesAt
 latches-no-stray s most first n at ls end e =
     let zeroth : first + 2 * 0 ≡ first = omega arith in
     ap (λ (c : ℕ). firstStray (countFrom c n) (resetsOf ls)) (sym zeroth) ∙ row-no-stray s most first 0 n at ls end e
+
+-- a line is refused by 22 exactly where its reset is a stray
+
+stray-is : (own r : ℕ) → (Allowed own r → ⊥) → isReset own r ≡ false
+stray-is own r h = go (isReset own r) refl
+  where
+    go : (t : Bool) → isReset own r ≡ t → t ≡ false
+    go true e = absurd (h (is-allowed own r e))
+    go false e = refl
+
+is-stray : (own r : ℕ) → isReset own r ≡ false → Allowed own r → ⊥
+is-stray own r e a = let f = allowed-is own r a in let z : _≡_ {A = Bool} true false = cc in let n : _≡_ {A = ℕ} 0 1 = cc in omega arith
+
+-- bytes and numbers have other refusals
+number-other : (s : List ℕ) (most at place : ℕ) → numberAt s most at ≡ no Reset place → ⊥
+unfolding numberAt
+number-other s most at place e = go (headerFieldAt s at most) e
+  where
+    go : (t : Token) → numberOf at t ≡ no Reset place → ⊥
+    go (Value v n) f = let z : _≡_ {A = ℕ} 0 1 = cc in omega arith
+    go (Refused why p) f = let z : _≡_ {A = ℕ} 0 1 = cc in omega arith
+
+byte-other : {A : Type 0} (a : A) (s : List ℕ) (b at place : ℕ) → (byteAt s b at ▸ λ _ at₁. got a at₁) ≡ no Reset place → ⊥
+unfolding byteAt
+byte-other {A} a s b at place e = go (isByte s b at) e
+  where
+    go : (t : Bool) → (_▸_ {A = Unit {0}} {B = A} (cond t (got tt (at + 1)) (no Missing at)) (λ _ at₁. got a at₁)) ≡ no Reset place → ⊥
+    go true f = let z : _≡_ {A = ℕ} 0 1 = cc in omega arith
+    go false f = let z : _≡_ {A = ℕ} 0 1 = cc in omega arith
+
+module _ (s : List ℕ) (most own : ℕ) where
+  line-refused : (at place : ℕ) → resetLineAt s most own at ≡ no Reset place
+      → (r : ℕ) × (after : ℕ) × (numberAt s most at ≡ got r after) × (place ≡ at) × (Allowed own r → ⊥)
+  unfolding resetLineAt
+  line-refused at place e = go (numberAt s most at) refl e
+    where
+      by : (r p : ℕ) → numberAt s most at ≡ got r p → (t : Bool) → isReset own r ≡ t
+          → cond t (newlineAt s p ▸ λ _ at₂. got r at₂) (no Reset at) ≡ no Reset place
+          → (x : ℕ) × (after : ℕ) × (numberAt s most at ≡ got x after) × (place ≡ at) × (Allowed own x → ⊥)
+      by r p f true g h = absurd (byte-other r s 10 p place h)
+      by r p f false g h = let there : place ≡ at = cc in (r, p, f, there, is-stray own r g)
+
+      go : (R : Read ℕ) → numberAt s most at ≡ R
+          → (R ▸ λ r at₁. cond (isReset own r) (newlineAt s at₁ ▸ λ _ at₂. got r at₂) (no Reset at)) ≡ no Reset place
+          → (x : ℕ) × (after : ℕ) × (numberAt s most at ≡ got x after) × (place ≡ at) × (Allowed own x → ⊥)
+      go (got r p) f g = by r p f (isReset own r) refl g
+      go (no why p) f g = absurd (number-other s most at place (f ∙ g))
+
+  rest-refused : (at place : ℕ) → resetAt s most own at ≡ no Reset place → (isByte s 32 at ≡ true) × (resetLineAt s most own (at + 1) ≡ no Reset place)
+  unfolding resetAt
+  rest-refused at place e = go (isByte s 32 at) refl e
+    where
+      go : (t : Bool) → isByte s 32 at ≡ t
+          → cond t (spaceAt s at ▸ λ _ at₁. resetLineAt s most own at₁) (newlineAt s at ▸ λ _ at₁. got 0 at₁) ≡ no Reset place
+          → (t ≡ true) × (resetLineAt s most own (at + 1) ≡ no Reset place)
+      go true f g = (refl, sym (ap (λ (R : Read (Unit {0})). R ▸ λ _ at₁. resetLineAt s most own at₁) (byte-is s 32 at f)) ∙ g)
+      go false f g = absurd (byte-other 0 s 10 at place g)
+
+  refused-stray : (at place : ℕ) → latchAt s most own at ≡ no Reset place → Stray s most own at place
+  unfolding latchAt
+  refused-stray at place e = go (numberAt s most at) refl e
+    where
+      made : (v p : ℕ) → numberAt s most at ≡ got v p → resetAt s most own p ≡ no Reset place → Stray s most own at place
+      made v p f g =
+          let rest = rest-refused p place g in
+          let (r, after, field, there, stray) = line-refused (p + 1) place (rest .1) in
+          record {
+            next = v;
+            space = p;
+            reset = r;
+            after = after;
+            number = f;
+            spaced = rest .0;
+            behind = there;
+            field = ap (numberAt s most) there ∙ field;
+            stray = stray;
+          }
+
+      same : (v : ℕ) (R : Read ℕ) → (R ▸ λ r at₂. got (latchLine v r) at₂) ≡ no Reset place → R ≡ no Reset place
+      same v (got r p) f = absurd (let z : _≡_ {A = ℕ} 0 1 = cc in omega arith)
+      same v (no why p) f = let a : why ≡ Reset = cc in let b : p ≡ place = cc in ap (λ (x : Fault). no x p) a ∙ ap (no Reset) b
+
+      go : (R : Read ℕ) → numberAt s most at ≡ R → (R ▸ λ v at₁. resetAt s most own at₁ ▸ λ r at₂. got (latchLine v r) at₂) ≡ no Reset place
+          → Stray s most own at place
+      go (got v p) f g = made v p f (same v (resetAt s most own p) g)
+      go (no why p) f g =
+          let a : why ≡ Reset = cc in
+          absurd (number-other s most at p (f ∙ ap (λ (x : Fault). no x p) a))
+
+  stray-refused : (at place : ℕ) → Stray s most own at place → latchAt s most own at ≡ no Reset place
+  unfolding latchAt resetAt resetLineAt
+  stray-refused at place t =
+      let field : numberAt s most (t .space + 1) ≡ got (t .reset) (t .after) = ap (numberAt s most) (sym (t .behind)) ∙ t .field in
+      rw (t .number, t .spaced, byte-is s 32 (t .space) (t .spaced), field, stray-is own (t .reset) (t .stray)) (ap (no Reset) (sym (t .behind)))
+
+  pub stray-exactly : (at place : ℕ) → (latchAt s most own at ≡ no Reset place) ↔ Stray s most own at place
+  stray-exactly at place = (refused-stray at place, stray-refused at place)
