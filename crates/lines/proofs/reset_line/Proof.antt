@@ -17,33 +17,33 @@ is-reset-requires c κs = search needs
 byte-requires : tie.Need-byte-requires
 byte-requires c κs = search needs
 
-enum-known-end : tie.Need-enum-known-end
-enum-known-end c = search needs
+enum-known-newline : tie.Need-enum-known-newline
+enum-known-newline c = search needs
 
 returns : tie.Need-returns
 returns c =
-    let endAt = c .before in
-    let byteAt = endAt .before .before in
+    let newlineAt = c .before in
+    let byteAt = newlineAt .before .before in
     let if1At = byteAt .before in
     let is-resetAt = if1At .before in
     let fieldAt = is-resetAt .before .before in
     let numberAt = fieldAt .before .before in
     field-is _ _ _ _ _ _ _ (sym (numberAt .number .ensures) ∙ fieldAt .field .given .1) (sym (is-resetAt .is-reset .ensures) ∙ if1At .if1 .taken)
-    (sym (byteAt .byte .ensures) ∙ endAt .end .given .1)
+    (sym (byteAt .byte .ensures) ∙ newlineAt .newline .given .1)
 
-enum-known-end-2 : tie.Need-enum-known-end-2
-enum-known-end-2 c = search needs
+enum-known-newline-2 : tie.Need-enum-known-newline-2
+enum-known-newline-2 c = search needs
 
 returns-2 : tie.Need-returns-2
 returns-2 c =
-    let end2At = c .before in
-    let byteAt = end2At .before .before in
+    let newline2At = c .before in
+    let byteAt = newline2At .before .before in
     let if1At = byteAt .before in
     let is-resetAt = if1At .before in
     let fieldAt = is-resetAt .before .before in
     let numberAt = fieldAt .before .before in
     field-open _ _ _ _ _ _ _ _ (sym (numberAt .number .ensures) ∙ fieldAt .field .given .1) (sym (is-resetAt .is-reset .ensures) ∙ if1At .if1 .taken)
-    (sym (byteAt .byte .ensures) ∙ end2At .end2 .given .1)
+    (sym (byteAt .byte .ensures) ∙ newline2At .newline2 .given .1)
 
 enum-known-field-2 : tie.Need-enum-known-field-2
 enum-known-field-2 c = search needs
@@ -69,9 +69,9 @@ reset-line-spec =
     enum-known-field
     is-reset-requires
     byte-requires
-    enum-known-end
+    enum-known-newline
     returns
-    enum-known-end-2
+    enum-known-newline-2
     returns-2
     enum-known-field-2
     returns-3
