@@ -94,7 +94,8 @@ ours-field : (next reset : ℕ) → (reset ≡ 0 → ⊥) → latchBytes next re
 unfolding latchBytes resetBytes
 ours-field next reset n = rw (ne-eqb reset 0 n)
 
-latch-told : (most own : ℕ) (l : LatchLine) (x : List ℕ) (t : Latch most own l x) → Told (Needed (l .reset) (t .second .first)) (latchBytes (l .next) (l .reset)) x
+latch-told : (most own : ℕ) (l : LatchLine) (x : List ℕ) (t : Latch most own l x)
+    → Told (Needed (l .reset) (t .second .first)) (latchBytes (l .next) (l .reset)) x
 latch-told most own l x t = go (t .second .first)
   where
     u : Both (Reset most own) (λ r. Nothing (latchLine (t .middle) r)) l (t .back)

@@ -1,4 +1,5 @@
--- The parts of which a section is put: a row's next one, the next latch line, the counts up to the last that is not zero, the roots of each kind. Assumes nothing.
+-- The parts of which a section is put: a row's next one, the next latch line, the counts up to the last that is not zero, the roots of each
+-- kind. Assumes nothing.
 use Prim.Native.Nat.{ℕ, _+_, _-_, _≤_, _<_, min}
 use mathlib.Core.Path.{_≡_, refl, sym, ap, _∙_}
 use mathlib.Core.Bool.{Bool, true, false, cond}

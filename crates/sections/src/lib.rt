@@ -1,5 +1,5 @@
-// What both forms of an AIGER file share, as it is written: lines with a number, latch lines, the header, the root section. Each writer puts its bytes into lent
-// bytes from a place on. What does not fit is not written, and the place after it is answered all the same.
+// What both forms of an AIGER file share, as it is written: lines with a number, latch lines, the header, the root section. Each writer puts its bytes
+// into lent bytes from a place on. What does not fit is not written, and the place after it is answered all the same.
 ghost use mathlib.Core.Path.{_≡_};
 ghost use Prim.Native.Nat.{_+_, _<_, min};
 ghost use lib.ListN.{length};

@@ -52,7 +52,8 @@ loop-again c =
     let loopAt = ownAt .before .before in
     let entry = loopAt .before .before .before .before in
     latching-more (loopAt .loop .inv) (latchLists _ _) _ _ _ (omega arith)
-    (own-serves _ (entry .args .limit) _ _ _ (omega arith) (ownAt .own-literal .ensures) ∙ latch-got _ _ _ _ (sym (latchAt .latch .ensures) ∙ lineAt .line .given .1))
+    (own-serves _ (entry .args .limit) _ _ _ (omega arith) (ownAt .own-literal .ensures)
+    ∙ latch-got _ _ _ _ (sym (latchAt .latch .ensures) ∙ lineAt .line .given .1))
     (storeAt .store .ensures) (store2At .store2 .ensures)
 
 enum-known-line-2 : tie.Need-enum-known-line-2 Inv-loop μ-loop
@@ -73,7 +74,8 @@ returns c =
     let loopAt = ownAt .before .before in
     let entry = loopAt .before .before .before .before in
     latching-broken (loopAt .loop .inv) _ _ (omega arith)
-    (own-serves _ (entry .args .limit) _ _ _ (omega arith) (ownAt .own-literal .ensures) ∙ latch-no _ _ _ (sym (latchAt .latch .ensures) ∙ line2At .line2 .given .1))
+    (own-serves _ (entry .args .limit) _ _ _ (omega arith) (ownAt .own-literal .ensures)
+    ∙ latch-no _ _ _ (sym (latchAt .latch .ensures) ∙ line2At .line2 .given .1))
 
 same-length-3 : tie.Need-same-length-3 Inv-loop μ-loop
 same-length-3 c = latching-keeps (c .before .loop .inv) .0

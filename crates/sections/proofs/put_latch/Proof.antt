@@ -32,7 +32,8 @@ returns c =
     let next = entry .args .next in
     let reset = entry .args .reset in
     let all = onward-all (now (entry .args .out)) (entry .args .at) (latchBytes next reset) in
-    let digits = onward all (digitsOf next) (resetBytes reset ++ (10 ∷ [])) refl _ _ (omega arith) (nextAt .put-decimal .ensures .0) (nextAt .put-decimal .ensures .1) in
+    let rest = resetBytes reset ++ (10 ∷ []) in
+    let digits = onward all (digitsOf next) rest refl _ _ (omega arith) (nextAt .put-decimal .ensures .0) (nextAt .put-decimal .ensures .1) in
     let field = onward digits (resetBytes reset) (10 ∷ []) refl _ _ (omega arith) (resetAt .put-reset .ensures .0) (resetAt .put-reset .ensures .1) in
     onward-last field _ _ (newlineAt .put .ensures .0) (newlineAt .put .ensures .1)
 
