@@ -43,7 +43,9 @@ module _ (bytes : List ℕ) (f : File) (used : ℕ) (g : Lending) (known : Known
         inputs = refl;
         states = refl;
         nexts = onto-take (f .ordered .nexts) (g .file .nexts) (length (f .ordered .nexts)) refl (known .nexts-fit);
-        resets = onto-take (f .ordered .resets) (g .file .resets) (length (f .ordered .nexts)) (sym (known .wellOrdered .resetCount)) (omega (arith, known .wellOrdered .resetCount, known .resets-fit));
+        resets =
+            onto-take (f .ordered .resets) (g .file .resets) (length (f .ordered .nexts)) (sym (known .wellOrdered .resetCount))
+            (omega (arith, known .wellOrdered .resetCount, known .resets-fit));
         gates = refl;
         roots = onto-take (f .ordered .roots) (g .file .roots) (total (f .ordered .counts)) (sym counts) (omega (arith, counts, known .roots-fit));
       }
