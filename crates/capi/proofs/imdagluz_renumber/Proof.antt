@@ -17,18 +17,18 @@ same-length c = c .before .before .before .refused-first .kept .1 .1 .0
 returns : tie.Need-returns
 returns c =
     let refusedFirstAt = c .before .before .before in
-    let entry = refusedFirstAt .before .before .before .before .before .before .before .before .before .before .before .before .before .before in
+    let entry = refusedFirstAt .before .before .before .before .before .before .before .before .before .before .before .before .before .before .before .before in
     let a = entry .args in
     let k = recordOf (a .top) (now (a .counts)) (a .flags) in
     let lent =
-    lentOf k (now (a .inputs)) (now (a .states)) (now (a .nexts)) (now (a .gates)) (now (a .roots)) (now (a .map)) (now (a .next-images))
-    (now (a .root-images)) (now (a .gates-out)) (now (a .scratch)) in
+    lentOf k (now (a .inputs)) (now (a .states)) (now (a .nexts)) (now (a .resets)) (now (a .gates)) (now (a .roots)) (now (a .map)) (now (a .next-images))
+    (now (a .reset-images)) (now (a .root-images)) (now (a .gates-out)) (now (a .scratch)) in
     way-first (now (a .counts)) (a .flags) (now (a .answer)) _ _ (refusedFirstAt .refused-first .ensures) (c .if1 .taken) lent
 
 record-of-requires : tie.Need-record-of-requires
 record-of-requires c κs =
     let refusedFirstAt = c .before .before .before in
-    let entry = refusedFirstAt .before .before .before .before .before .before .before .before .before .before .before .before .before .before in
+    let entry = refusedFirstAt .before .before .before .before .before .before .before .before .before .before .before .before .before .before .before .before in
     let a = entry .args in
     five-counts (now (a .counts)) (a .flags) (taken (now (a .counts)) (a .flags) (now (a .answer)) _ _ (refusedFirstAt .refused-first .ensures)
     (c .if1 .left) .given)
@@ -42,7 +42,7 @@ put-answer-requires c κs =
     c .before .before .before .before .before .before .before .before .before .before .before .before .before .before
     .before .before .before .before in
     let refusedFirstAt = if1At .before .before .before in
-    let entry = refusedFirstAt .before .before .before .before .before .before .before .before .before .before .before .before .before .before in
+    let entry = refusedFirstAt .before .before .before .before .before .before .before .before .before .before .before .before .before .before .before .before in
     let a = entry .args in
     taken-room (taken (now (a .counts)) (a .flags) (now (a .answer)) _ _ (refusedFirstAt .refused-first .ensures) (if1At .if1 .left))
 
@@ -93,11 +93,11 @@ returns-2 c =
     let recordOfAt = renumberAt .before .before .before .before .before .before in
     let if1At = recordOfAt .before in
     let refusedFirstAt = if1At .before .before .before in
-    let entry = refusedFirstAt .before .before .before .before .before .before .before .before .before .before .before .before .before .before in
+    let entry = refusedFirstAt .before .before .before .before .before .before .before .before .before .before .before .before .before .before .before .before in
     let a = entry .args in
     let given : CircuitRecord → Lent =
-    λ k. lentOf k (now (a .inputs)) (now (a .states)) (now (a .nexts)) (now (a .gates)) (now (a .roots)) (now (a .map)) (now (a .next-images))
-    (now (a .root-images)) (now (a .gates-out)) (now (a .scratch)) in
+    λ k. lentOf k (now (a .inputs)) (now (a .states)) (now (a .nexts)) (now (a .resets)) (now (a .gates)) (now (a .roots)) (now (a .map)) (now (a .next-images))
+    (now (a .reset-images)) (now (a .root-images)) (now (a .gates-out)) (now (a .scratch)) in
     let q = recordOfAt .record-of in
     let r = renumberAt .renumber in
     let left =
