@@ -20,6 +20,6 @@ pub one-conclude :
       now (e .1 .1 .1 .1 .1 .1 .1 .1 .1 .1 .1 .1 .1 .0),
     ))
 one-conclude κs a x y e f p q = (
-      ap (λ (o : Outcome). o .answer) (p ∙ sym q),
-      ap (λ (o : Outcome). (o .map, o .nextImages, o .resetImages, o .rootImages, o .gatesOut, o .scratch)) (p ∙ sym q),
-    )
+  ap (λ (o : Outcome). o .answer) (p ∙ sym q),
+  ap (λ (o : Outcome). (o .map, o .nextImages, o .resetImages, o .rootImages, o .gatesOut, o .scratch)) (p ∙ sym q),
+)

@@ -85,8 +85,7 @@ loop-again c =
     let loopTestAt = if1At .before in
     let loopAt = loopTestAt .before in
     let entry = loopAt .before .before .before in
-    let a = entry .args in
-    (
+    let a = entry .args in (
       turn-within (loopTestAt .loop-test .taken),
       loopAt .loop .inv .1 ∙ stray-on (now (a .states)) (now (a .resets)) _ (loopTestAt .loop-test .taken) (if1At .if1 .left) (isResetAt .is-reset .result) (isResetAt .is-reset .ensures)
           (not-false (isResetAt .is-reset .result) (c .if2 .left)),

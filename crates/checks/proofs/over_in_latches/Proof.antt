@@ -159,8 +159,7 @@ loop-again c =
     let loopTestAt = if1At .before in
     let loopAt = loopTestAt .before in
     let entry = loopAt .before .before .before .before in
-    let a = entry .args in
-    (
+    let a = entry .args in (
       turn-within (loopTestAt .loop-test .taken),
       loopAt .loop .inv .1 ∙ latch-on (a .bound) (now (a .states)) (now (a .nexts)) (now (a .resets)) _ (loopTestAt .loop-test .taken) (if1At .if1 .left) (if2At .if2 .left) _
           (wideAt .wide .ensures) (if3At .if3 .left) _ (wide2At .wide2 .ensures) (if4At .if4 .left) _ (wide3At .wide3 .ensures) (c .if5 .left),

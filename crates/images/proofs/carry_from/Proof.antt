@@ -84,8 +84,7 @@ loop-again c =
     let loopTestAt = if1At .before in
     let loopAt = loopTestAt .before in
     let entry = loopAt .before .before .before in
-    let a = entry .args in
-    (
+    let a = entry .args in (
       omega (arith, loopTestAt .loop-test .taken),
       omega (arith, if1At .if1 .left, loopAt .loop .inv .2),
       length-set (loopAt .loop .out) (loopAt .loop .i) (c .renewed .result) ∙ loopAt .loop .inv .2,
