@@ -1,7 +1,7 @@
 -- What renumbering answers and leaves in its lists, as the text of the report. Assumes nothing.
-use Prim.Native.Nat.{ℕ, _+_, _*_, _/_, _%_, _≤_}
-use mathlib.Core.Path.{_≡_, sym, ap, _∙_}
-use mathlib.Core.List.{List}
+use Prim.Native.Nat.{ℕ, zero, suc, _+_, _*_, _/_, _%_, _≤_}
+use mathlib.Core.Path.{_≡_, refl, sym, ap, _∙_}
+use mathlib.Core.List.{List, _∷_}
 use native.Mathlib.Omega.{arith}
 use borrow.Author.Tests.{le-ltb, eq-eqb}
 use lib.ListN.{length, take, length-replicate}
@@ -23,6 +23,15 @@ use Rattle.sheet_lines.specs.Text.{refusedText, orderedText}
 use Rattle.sheet.specs.Report.{textOf, outText}
 use Rattle.sheet.specs.Promise.{circuitIn, Shaped, Roomy}
 use Rattle.sheet_read.proofs.Headers.{bounds}
+
+-- zeros at the front of zeros
+zeros-front : (n k : ℕ) → n ≤ k → take n (zeros k) ≡ zeros n
+zeros-front zero k h = refl
+zeros-front (suc n) zero h = absurd (omega arith)
+zeros-front (suc n) (suc k) h = ap {B = List ℕ} (λ l. 0 ∷ l) (zeros-front n k (omega arith))
+
+pub zeros-long : {zs : List ℕ} → zs ≡ zeros 1023 → length zs ≡ 1023
+zeros-long e = ap length e ∙ length-replicate {A = ℕ} 1023 0
 
 -- a circuit on a sheet, with room for the largest one, passes checks 1 to 3
 module _ (h is ss ns gs rs m n z r g w : List ℕ) (shaped : Shaped h is ss ns gs rs) (room : Roomy m n z r g w) where
@@ -89,12 +98,16 @@ module _ (h is ss ns gs rs m n z r g w : List ℕ) (shaped : Shaped h is ss ns g
     refused-text why e = ap (outText C) (sym (refusal-from lent why (sym (ap (λ (o : Outcome). o .answer) e))) ∙ conclusion-of lent fits)
 
     -- the same of an answer, a record and resets as the code has them
-    module _ (a : Answer) (c : CircuitRecord) (zs : List ℕ) (k : c ≡ recordOn h) (none : zs ≡ zeros (length ss))
-        (e : outcomeOf a m′ n′ z′ r′ g′ w′ ≡ outcome (lentOf c is ss ns zs gs rs m n z r g w)) where
+    module _ (a : Answer) (c : CircuitRecord) (zs : List ℕ) (k : c ≡ recordOn h) (none : zs ≡ zeros 1023)
+        (e : outcomeOf a m′ n′ z′ r′ g′ w′ ≡ outcome (lentOf c is ss ns (take (length ss) zs) gs rs m n z r g w)) where
+      no-reset : take (length ss) zs ≡ zeros (length ss)
+      no-reset = ap (take (length ss)) none ∙ zeros-front (length ss) 1023 (omega (arith, shaped .states, bounds (shaped .taken)))
+
       same-outcome : (b : Answer) → a ≡ b → outcomeOf b m′ n′ z′ r′ g′ w′ ≡ outcome lent
       same-outcome b f =
-          ap (λ (x : Answer). outcomeOf x m′ n′ z′ r′ g′ w′) (sym f) ∙ e ∙ ap (λ (x : CircuitRecord). outcome (lentOf x is ss ns zs gs rs m n z r g w)) k
-          ∙ ap (λ (x : List ℕ). outcome (lentOf (recordOn h) is ss ns x gs rs m n z r g w)) none
+          ap (λ (x : Answer). outcomeOf x m′ n′ z′ r′ g′ w′) (sym f) ∙ e
+          ∙ ap (λ (x : CircuitRecord). outcome (lentOf x is ss ns (take (length ss) zs) gs rs m n z r g w)) k
+          ∙ ap (λ (x : List ℕ). outcome (lentOf (recordOn h) is ss ns x gs rs m n z r g w)) no-reset
 
       pub given-made : (s : Summary) → a ≡ Renumbered s → s .made ≤ 1023
       given-made s f = made-few s (same-outcome (Renumbered s) f)
