@@ -35,7 +35,7 @@ fn row() -> [u32; 1023]
 fn no_resets() -> [u32; 1023]
     ensures { λ r. ⌜ r ≡ zeros 1023 ⌝ }
 {
-    [0; 1023]
+    [0u32; 1023]
 }
 
 fn map_words() -> [u32; 1024]
