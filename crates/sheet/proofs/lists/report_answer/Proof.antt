@@ -9,8 +9,6 @@ use Rattle.sheet.proofs.Answers.{zeros-long, given-made, given-ordered,
 use borrow.Author.Needs.{needs}
 use Rattle.sheet.proofs.lists.report_answer.Statement.{statement}
 use Rattle.sheet.proofs.lists.report_answer.Tie as tie
-use Rattle.sheet.proofs.lists.report_answer.Reads as reads
-use Rattle.sheet.proofs.lists.report_answer.Lts as lts
 
 circuit-on-requires : tie.Need-circuit-on-requires
 circuit-on-requires c κs = search needs
