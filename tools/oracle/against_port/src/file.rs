@@ -104,16 +104,23 @@ fn renamed(circuit: &Circuit, random: &mut Random, signs: bool) -> Circuit {
     renamed
 }
 
-/// Writes an ordered file again with one literal flipped: the first latch's next state, the last root, or the last gate's second input.
+/// Writes an ordered file again with one literal flipped: the first latch's next state, the last root, or the last gate's second input. A latch's reset that is
+/// flipped is 1 where it was 0, and else 0.
 pub fn flip(path: &str, which: &str, to: &str) {
     let mut file = aiger::read(&fs::read(path).expect("the file can be read"));
     let circuit = &mut file.circuit;
+    if which == "reset" {
+        let latch = circuit.latches.first_mut().expect("a latch");
+        // what is flipped below is the low bit of 0 or 1
+        latch[2] = latch[2].min(1);
+    }
     let literal = match which {
+        "reset" => circuit.latches.first_mut().map(|latch| &mut latch[2]),
         "next" => circuit.latches.first_mut().map(|latch| &mut latch[1]),
         "root" => circuit.roots.iter_mut().flatten().last(),
         "gate" => circuit.gates.last_mut().map(|gate| &mut gate[2]),
         _ => None,
     };
-    *literal.expect("a next state, a root or a gate") ^= 1;
+    *literal.expect("a next state, a reset, a root or a gate") ^= 1;
     fs::write(to, aiger::write(&file)).expect("the file can be written");
 }

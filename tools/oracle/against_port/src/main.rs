@@ -13,7 +13,7 @@
 //!     against_port write large                   ordered circuits at the limits and one over, written
 //!     against_port write trips SEED COUNT MAXGATES   files read and written again
 //!     against_port file FILE FOLDER SEED         an AIGER file in three orders, with all flags; writes FOLDER/ORDER-FLAGS.aig as the port ordered it
-//!     against_port flip FILE WHICH TO            the file with one literal flipped: of a next state, a root or a gate (WHICH)
+//!     against_port flip FILE WHICH TO            the file with one literal flipped: of a next state, a reset, a root or a gate (WHICH)
 //!
 //! Prints how many of each answer there were. At the first difference it prints the smallest circuit it can shrink it to and ends with 1.
 mod aiger;

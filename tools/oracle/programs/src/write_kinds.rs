@@ -314,6 +314,12 @@ pub fn large(random: &mut Random, mut tell: impl FnMut(&Given)) {
         tell(&of_sizes(random, 3, 0, 1, [0; 5], size));
         tell(&of_sizes(random, 0, 0, 1, [size / 2, 0, 0, 0, size - size / 2], size));
     }
+    // the last latch there can be, with its own literal for its reset, that negated, and a code that is over
+    let mut last = of_sizes(random, 0, LIMIT, 0, [0; 5], 0);
+    for reset in [2 * LIMIT as u32, 2 * LIMIT as u32 + 1, 2 * LIMIT as u32 + 2] {
+        *last.resets.last_mut().expect("a latch") = reset;
+        tell(&last);
+    }
     let mut last = of_sizes(random, 0, 0, LIMIT, [0; 5], 0);
     // the last gate there can be, with its own code, with inputs exchanged, and with a code that is over
     for pair in [[2 * LIMIT as u32, 0], [0, 1], [2 * LIMIT as u32 + 1, 0], [2 * LIMIT as u32 - 1, 2 * LIMIT as u32 + 2]] {
