@@ -264,6 +264,11 @@ fn large(tally: &mut Tally) {
             },
             Spare::of(0),
         );
+        // more next states or resets than there may be latches: too many for the latch that there is, and no size of its own
+        for read in [[LIMIT as isize, 0, 0], [0, LIMIT as isize, 0]] {
+            let circuit = Circuit { largest: size, latches: vec![[2, 3, 1]], ..Circuit::default() };
+            tally.compare(&circuit, Spare { read, ..Spare::of(0) });
+        }
         // odd states, of which each is unset; in one circuit the last reset is the negated literal
         for last in [0, 1] {
             let mut latches: Vec<[u64; 3]> = (1..=LIMIT).rev().map(|v| [2 * v + 1, 0, 2 * v + 1]).collect();

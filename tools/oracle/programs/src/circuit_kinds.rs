@@ -307,6 +307,12 @@ pub fn with_resets(random: &mut Random, circuit: &mut Circuit) {
         let index = random.index(circuit.latches.len());
         let own = circuit.latches[index][0];
         circuit.latches[index][2] = if random.below(3) == 0 { own ^ 1 } else { reset };
+        // both of a latch's literals over: the next state comes first
+        if random.below(8) == 0 {
+            let first = 2 * circuit.largest + 2;
+            circuit.latches[index][1] = first + 1;
+            circuit.latches[index][2] = first + random.below(3);
+        }
     }
 }
 

@@ -314,6 +314,12 @@ pub fn large(random: &mut Random, mut tell: impl FnMut(&Given)) {
         tell(&of_sizes(random, 3, 0, 1, [0; 5], size));
         tell(&of_sizes(random, 0, 0, 1, [size / 2, 0, 0, 0, size - size / 2], size));
     }
+    // more resets than there may be latches: too many for the latches that there are, and no size of its own
+    for latches in [0, 3, LIMIT] {
+        let mut given = of_sizes(random, 0, latches, 0, [0; 5], 0);
+        given.resets.resize(LIMIT as usize + 1, 0);
+        tell(&given);
+    }
     // the last latch there can be, with its own literal for its reset, that negated, and a code that is over
     let mut last = of_sizes(random, 0, LIMIT, 0, [0; 5], 0);
     for reset in [2 * LIMIT as u32, 2 * LIMIT as u32 + 1, 2 * LIMIT as u32 + 2] {
