@@ -206,6 +206,8 @@ pub circuit-pinned :
     × (circuitIn (header 6) (4 ∷ 2 ∷ 7 ∷ []) (30 ∷ 32 ∷ []) (19 ∷ 22 ∷ []) (20 ∷ 12 ∷ 14 ∷ 13 ∷ 5 ∷ 8 ∷ 16 ∷ 21 ∷ 1 ∷ 18 ∷ 10 ∷ 9 ∷ [])
     (41 ∷ 42 ∷ 43 ∷ 44 ∷ 45 ∷ 46 ∷ 47 ∷ 48 ∷ 49 ∷ 50 ∷ [])
     ≡ circuit false true true)
+    -- a reset for each state, also where there are fewer next states
+    × ((circuitIn (header 6) [] (30 ∷ 32 ∷ 34 ∷ []) (19 ∷ []) [] []) .resets ≡ 0 ∷ 0 ∷ 0 ∷ [])
     -- the words of each list
     × (inputCodes (header 0) words ≡ 4 ∷ 2 ∷ 7 ∷ [])
     × (gateWords (header 0) words ≡ 20 ∷ 12 ∷ 14 ∷ 13 ∷ 5 ∷ 8 ∷ 16 ∷ 21 ∷ 1 ∷ 18 ∷ 10 ∷ 9 ∷ [])
@@ -217,6 +219,7 @@ pub circuit-pinned :
     × (statesOf (30 ∷ []) ≡ []) × (nextsOf (30 ∷ []) ≡ []) × (statesOf [] ≡ []) × (nextsOf [] ≡ [])
 unfolding circuitOn isOdd
 circuit-pinned = (
+  refl,
   refl,
   refl,
   refl,

@@ -54,8 +54,8 @@ whole s out room = front-is-text out (reportOf s) (omega (arith, fits s))
 pub ends : (s : List ℕ) → Ends (reportOf s)
 ends = newlines.report-ends
 
--- 4. The library's order: what a sheet announces, every reset 0, passes checks 1 to 3, with whatever of room for the largest sheet is lent, so the first that can refuse is
--- check 4.
+-- 4. The library's order: what a sheet announces, every reset 0, passes checks 1 to 3, with whatever of room for the largest sheet is lent, so the first that
+-- can refuse is check 4.
 
 pub library-order : (h is ss ns gs rs m n z r g w : List ℕ) → Shaped h is ss ns gs rs → Roomy m n z r g w
     → conclusion (lentOf (recordOn h) is ss ns (zeros (length ss)) gs rs m n z r g w) ≡ renumber (circuitIn h is ss ns gs rs)
