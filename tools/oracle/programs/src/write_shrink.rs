@@ -74,12 +74,13 @@ fn candidates(given: &Given) -> Vec<Given> {
     }
     // numbers that are smaller, and all codes with an input away
     for less in [given.inputs, given.inputs / 2, 1] {
+        let twice = less.saturating_mul(2);
         with(&|other| other.inputs = other.inputs.saturating_sub(less));
         with(&|other| {
             other.inputs = other.inputs.saturating_sub(less);
-            other.resets.iter_mut().filter(|reset| **reset > 1).for_each(|reset| *reset = reset.saturating_sub(2 * less));
+            other.resets.iter_mut().filter(|reset| **reset > 1).for_each(|reset| *reset = reset.saturating_sub(twice));
             let lists = [&mut other.nexts, &mut other.gates, &mut other.roots];
-            lists.into_iter().flatten().for_each(|word| *word = word.saturating_sub(2 * less));
+            lists.into_iter().flatten().for_each(|word| *word = word.saturating_sub(twice));
         });
     }
     for list in 0..6 {
