@@ -79,7 +79,15 @@ fn written(
 ) {
     let mut words = [0u64; 2];
     let number = file_words::write(
-        inputs, counts, nexts, resets, gates, sizes, roots, out, &mut words,
+        inputs,
+        counts,
+        nexts,
+        resets,
+        gates,
+        sizes,
+        roots,
+        out,
+        &mut words,
     );
     say::written(number, words);
     say::hex(out);
@@ -109,15 +117,7 @@ fn read(file: &[u8]) {
         &mut words,
     );
     if number == 0 {
-        fronts(
-            file.len(),
-            &words,
-            &nexts,
-            &resets,
-            &gates,
-            &sizes,
-            &roots,
-        );
+        fronts(file.len(), &words, &nexts, &resets, &gates, &sizes, &roots);
     } else {
         say::refusal(number as u64, words[0]);
     }

@@ -181,5 +181,15 @@ pub extern "C" fn imdagluz_write_aig(
       roots = now (roots .entry);
     }) (now (out .entry)) (now (answer .entry)) ⌝ }
 {
-    file_words::write(inputs, counts, nexts, resets, gates, sizes, roots, out, answer)
+    file_words::write(
+        inputs,
+        counts,
+        nexts,
+        resets,
+        gates,
+        sizes,
+        roots,
+        out,
+        answer,
+    )
 }

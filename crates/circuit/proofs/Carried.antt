@@ -19,7 +19,7 @@ carried-length t (r ∷ rs) = ap suc (carried-length (t + 2) rs)
 
 pub carried-at : (t : ℕ) (rs : List ℕ) (j : ℕ) → j < length rs → getD (carriedFrom t rs) j 0 ≡ carried (t + 2 * j) (getD rs j 0)
 carried-at t [] j h = absurd (omega arith)
-carried-at t (r ∷ rs) zero h = let e : t + 2 * 0 ≡ t = omega arith in rw (e)
+carried-at t (r ∷ rs) zero h = let e : t ≡ t + 2 * 0 = omega arith in ap (λ (x : ℕ). carried x r) e
 carried-at t (r ∷ rs) (suc j) h =
     let e : t + 2 + 2 * j ≡ t + 2 * suc j = omega arith in
     carried-at (t + 2) rs j (omega arith) ∙ ap (λ (x : ℕ). carried x (getD rs j 0)) e

@@ -97,7 +97,15 @@ fn written(
     words: &mut [u64],
 ) {
     let number = file_words::write(
-        inputs, counts, nexts, resets, gates, sizes, roots, out, words,
+        inputs,
+        counts,
+        nexts,
+        resets,
+        gates,
+        sizes,
+        roots,
+        out,
+        words,
     );
     said(number, words);
     say::text(b"; bytes \"");
@@ -147,15 +155,7 @@ fn read(file: &[u8]) {
     if number == 0 {
         files::part(b": takes ", &words, 0);
         say::text(b" bytes; ");
-        rewritten(
-            file.len(),
-            &words,
-            &nexts,
-            &resets,
-            &gates,
-            &sizes,
-            &roots,
-        );
+        rewritten(file.len(), &words, &nexts, &resets, &gates, &sizes, &roots);
         return;
     }
     say::counted(b": refused ", number as u64);

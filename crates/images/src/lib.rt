@@ -67,17 +67,17 @@ fn renewed(own: u32, reset: u32) -> u32
 }
 
 // The same of a list of resets, onto the front of another, where the latches have the new literals first, first + 2, ..
-fn carry_from(resets: &[u32], first: u32, out: &mut [u32])
+fn carry_from(resets: &[u32], first: u32, list: &mut [u32])
     requires { ⌜ first + 2 * length (now resets) < 2 ^ 32 ⌝ }
-    ensures { λ _. ⌜ now (out .exit) ≡ onto (carriedFrom first (now (resets .entry))) (now (out .entry)) ⌝ }
+    ensures { λ _. ⌜ now (list .exit) ≡ onto (carriedFrom first (now (resets .entry))) (now (list .entry)) ⌝ }
 {
     let mut i = 0;
     let mut own = first;
     while i < resets.len() {
-        if out.len() <= i {
+        if list.len() <= i {
             return;
         }
-        out[i] = renewed(own, resets[i]);
+        list[i] = renewed(own, resets[i]);
         i += 1;
         own += 2;
     }

@@ -13,11 +13,11 @@ use Rattle.lent.proofs.Rows.{onto-all, onto-full}
 use Rattle.images.proofs.Few.{carried-more}
 
 abbrev Inv-loop : tie.InvT-loop
-Inv-loop resets first out₀ i₀ own₀ out i own =
-    (i ≤ length resets) × (i ≤ length out₀) × (length out ≡ length out₀) × (own ≡ first + 2 * i) × (out ≡ take i (carriedFrom first resets) ++ drop i out₀)
+Inv-loop resets first list₀ i₀ own₀ list i own =
+    (i ≤ length resets) × (i ≤ length list₀) × (length list ≡ length list₀) × (own ≡ first + 2 * i) × (list ≡ take i (carriedFrom first resets) ++ drop i list₀)
 
 abbrev μ-loop : tie.MeasureT-loop
-μ-loop resets first out₀ i₀ own₀ out i own = length resets - i
+μ-loop resets first list₀ i₀ own₀ list i own = length resets - i
 
 loop-holds : tie.Need-loop-holds Inv-loop μ-loop
 loop-holds c = (omega arith, omega arith, refl, omega arith, refl)
@@ -49,14 +49,14 @@ shared-slice-read-renewed c =
 renewed-requires : tie.Need-renewed-requires Inv-loop μ-loop
 renewed-requires c κs = tt
 
-mul-out : tie.Need-mul-out Inv-loop μ-loop
-mul-out c =
+mul-list : tie.Need-mul-list Inv-loop μ-loop
+mul-list c =
     let loopTestAt = c .before .before .before in
     let entry = loopTestAt .before .before .before .before in
     record { fits = omega (arith, loopTestAt .loop-test .taken, entry .pre) }
 
-slice-write-out : tie.Need-slice-write-out Inv-loop μ-loop
-slice-write-out c =
+slice-write-list : tie.Need-slice-write-list Inv-loop μ-loop
+slice-write-list c =
     let if1At = c .before .before in
     if1At .if1 .left
 
@@ -87,7 +87,7 @@ loop-again c =
     let a = entry .args in (
       omega (arith, loopTestAt .loop-test .taken),
       omega (arith, if1At .if1 .left, loopAt .loop .inv .2),
-      length-set (loopAt .loop .out) (loopAt .loop .i) (c .renewed .result) ∙ loopAt .loop .inv .2,
+      length-set (loopAt .loop .list) (loopAt .loop .i) (c .renewed .result) ∙ loopAt .loop .inv .2,
       omega (arith, loopAt .loop .inv .3),
       carried-more (a .first) (now (a .resets)) _ _ _ _ _ (loopTestAt .loop-test .taken) (omega (arith, if1At .if1 .left, loopAt .loop .inv .2)) (loopAt .loop .inv .3) (loopAt .loop .inv .4) (c .renewed .ensures),
     )
@@ -117,8 +117,8 @@ carry-from-spec =
     mul-renewed
     shared-slice-read-renewed
     renewed-requires
-    mul-out
-    slice-write-out
+    mul-list
+    slice-write-list
     add-i
     add-own
     loop-less
