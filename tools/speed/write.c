@@ -6,8 +6,8 @@
  * literal by turns; each gate's inputs are drawn from all that stands before it, half of them from the last hundred; a twentieth as many outputs, a hundredth as
  * many bad states, and as many constraints, justice sets of two literals and fairness constraints. `gates`: SIZE gates over two inputs, whose inputs are among
  * the last thirty variables, so that every delta is one byte. `far`: SIZE gates over two inputs, whose inputs are drawn from all that stands before. `lines`: SIZE
- * outputs of any literal over half as many inputs. `latches`: SIZE latches, with resets as in mixed. `whole`: the file of mixed is read, renumbered with trim,
- * hash and fold, and written. With `measure-` before a KIND but the last no byte is lent, so that the port only checks and measures; `faulty-` makes the last gate its
+ * outputs of any literal over half as many inputs. `latches`: SIZE latches, with resets as in mixed. `zeros`: the same, each reset 0. `whole`: the file of
+ * mixed is read, renumbered with trim, hash and fold, and written. With `measure-` before a KIND but the last no byte is lent, so that the port only checks and measures; `faulty-` makes the last gate its
  * own input, so that it only checks; with `just-` as many bytes are lent as the file has, so that the port measures first (port only).
  * Prints the bytes written and a sum over them and their places, on which both must agree, and with a clock the milliseconds of the fastest run. Only by_port and
  * by_crate are to be counted by an instruction counter. */
@@ -62,7 +62,7 @@ static int make(const char *kind, uint32_t size) {
     kind += measured ? 8 : faulty ? 7 : just ? 5 : 0;
     whole = strcmp(kind, "whole") == 0;
     int mixed = whole || strcmp(kind, "mixed") == 0, near = strcmp(kind, "gates") == 0, far = strcmp(kind, "far") == 0;
-    int lines = strcmp(kind, "lines") == 0, latched = strcmp(kind, "latches") == 0;
+    int lines = strcmp(kind, "lines") == 0, zeros = strcmp(kind, "zeros") == 0, latched = zeros || strcmp(kind, "latches") == 0;
     if (!(mixed || near || far || lines || latched) || size == 0) return 0;
     inputs = mixed ? size / 25 + 2 : lines ? size / 2 : latched ? 0 : 2, latches = mixed ? size / 125 : latched ? size : 0;
     count = lines || latched ? 0 : size;
@@ -70,7 +70,7 @@ static int make(const char *kind, uint32_t size) {
     if (top > LIMIT) return 0;
     sets = others;
     counts[0] = outputs, counts[1] = counts[2] = counts[3] = others, counts[4] = 2 * others;
-    for (uint32_t k = 0; k < latches; k++) nexts[k] = draw(top, 0), resets[k] = k % 4 == 3 ? 2 * (inputs + 1 + k) : k % 4 == 1;
+    for (uint32_t k = 0; k < latches; k++) nexts[k] = draw(top, 0), resets[k] = zeros ? 0 : k % 4 == 3 ? 2 * (inputs + 1 + k) : k % 4 == 1;
     for (uint32_t k = 0; k < outputs + 5 * others; k++) roots[k] = draw(top, 0);
     for (uint32_t k = 0; k < sets; k++) sizes[k] = 2;
     for (uint32_t k = 0; k < count; k++) {

@@ -72,8 +72,11 @@ fn candidates(given: &Given) -> Vec<Given> {
             lists.into_iter().flatten().filter(|word| **word >= code).for_each(|word| *word -= 2);
         });
     }
-    // numbers that are smaller, and all codes with an input away
-    for less in [given.inputs, given.inputs / 2, 1] {
+    // numbers that are smaller, and all codes with an input away; where there is none the steps below are longer
+    for less in [given.inputs, given.inputs / 2, given.inputs.min(1)] {
+        if less == 0 {
+            continue;
+        }
         let twice = less.saturating_mul(2);
         with(&|other| other.inputs = other.inputs.saturating_sub(less));
         with(&|other| {

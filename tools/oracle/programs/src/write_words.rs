@@ -48,7 +48,7 @@ impl Line {
             Line::Size => "a size over 1,048,575 (1)",
             Line::Shape => "counts or sizes that are not those of the lists (2), of which the crate has no record",
             Line::Code => "a code over 2V+1 (4)",
-            Line::Stray => "a reset that is not 0, 1 or the latch (22), of which the crate has no record",
+            Line::Stray => "a reset that is not 0, 1 or the latch's own literal (22), which the crate's type cannot hold",
             Line::Swapped => "a gate's first input below its second (23), which the crate exchanges",
             Line::Own => "a gate's first input its own code (23), which the crate writes as a first delta of zero",
             Line::Above => "a gate's larger input above its own code (23), where the crate panics",
