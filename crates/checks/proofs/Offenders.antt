@@ -17,7 +17,6 @@ use Rattle.circuit.specs.Circuit.{gateCodes, latchCodes, codes, firstOver, isRe
 use Rattle.circuit.specs.Outcome.{Lent, circuitOf, gatesOf}
 use Rattle.checks.specs.declared.Found.{Found}
 use Rattle.checks.specs.declared.Found.the-variants.{Literal, Nothing}
-use Rattle.checks.specs.declared.Check.{Check}
 use Rattle.checks.specs.declared.Check.the-variants.{Passed, Failed}
 use Rattle.checks.specs.Checks.{found, failAt, straying, Shaped}
 use Rattle.lent.proofs.Rows.{drop-at-one, drop-at-end}

@@ -7,7 +7,7 @@ pub use Rattle.circuit.proofs.Pins.{pins, limits-pinned, fields-pinned,
 pub use Rattle.circuit.proofs.Improvements.{improvements}
 pub use Rattle.circuit.proofs.Told.{told}
 pub use Rattle.circuit.proofs.Deepest.{as-deep-as-can-be}
-pub use Rattle.circuit.proofs.Resets.{resets-unseen, as-before, stray-exactly, zeros-carried}
+pub use Rattle.circuit.proofs.Resets.{resets-unseen, as-before, stray-exactly, reset-exactly, zeros-carried}
 use Prim.Native.Nat.{ℕ, _≤_}
 use mathlib.Core.Path.{_≡_, sym, _∙_, subst⁻¹}
 use mathlib.Core.Logic.{_↔_}

@@ -163,18 +163,9 @@ module _ (l : Lent) where
   pub clean : Tested l → Clean C
   clean p = (bounds p, all-reset p)
 
-  pub tested-of : Fits l → Clean C → Tested l
-  tested-of f (b, a) =
-      record {
-        fits = f;
-        four = go (firstOver (2 * C .top + 1) (codes C)) (overTest (2 * C .top + 1) (codes C));
-        twentyTwo = stray (firstStray (l .states) (l .resets)) (strayTest (l .states) (l .resets));
-      }
+  pub none-over : InBounds C → firstOver (2 * C .top + 1) (codes C) ≡ none
+  none-over b = go (firstOver (2 * C .top + 1) (codes C)) (overTest (2 * C .top + 1) (codes C))
     where
-      stray : (o : Option ℕ) → Stray (l .states) (l .resets) o → o ≡ none
-      stray none (noneStray k) = refl
-      stray (some c) (oneStray c′ k) = absurd (no-stray (l .states) (l .resets) c k a)
-
       go : (o : Option ℕ) → Over (2 * C .top + 1) (codes C) o → o ≡ none
       go none (noneOver k) = refl
       go (some c) (oneOver c′ k) = absurd (omega (arith, b c (subst⁻¹ (In c) (k .splits) (in-middle (k .before))), k .isOver))
@@ -182,6 +173,14 @@ module _ (l : Lent) where
           in-middle : (s : List ℕ) → In c (s ++ (c ∷ k .after))
           in-middle [] = inl refl
           in-middle (x ∷ s) = inr (in-middle s)
+
+  pub tested-of : Fits l → Clean C → Tested l
+  tested-of f (b, a) =
+      record { fits = f; four = none-over b; twentyTwo = stray (firstStray (l .states) (l .resets)) (strayTest (l .states) (l .resets)) }
+    where
+      stray : (o : Option ℕ) → Stray (l .states) (l .resets) o → o ≡ none
+      stray none (noneStray k) = refl
+      stray (some c) (oneStray c′ k) = absurd (no-stray (l .states) (l .resets) c k a)
 
   -- what the conclusion says
   abbrev pub Concluded : Out → Type 0

@@ -71,11 +71,11 @@ module _ (l : Lent) where
       let s = sizes (t .fits) in
       record { sizes = s; bounded = bounded-of (circuitOf l) (s .agrees .latches) (s .agrees .resets) (bounds l t); resets = all-reset l t }
 
+  pub from-sizes : PassesSizes l → Fits l
+  from-sizes s = record { one = from-within l (s .within); two = from-agrees l (s .agrees); three = from-roomy l (s .roomy) }
+
   pub tested : Passes l → Tested l
-  tested p =
-      let s = p .sizes in
-      let f : Fits l = record { one = from-within l (s .within); two = from-agrees l (s .agrees); three = from-roomy l (s .roomy) } in
-      tested-of l f (of-bounded (circuitOf l) (p .bounded), p .resets)
+  tested p = tested-of l (from-sizes (p .sizes)) (of-bounded (circuitOf l) (p .bounded), p .resets)
 
   says : (r : Refusal) → WhyLent l r → IsTrue l r
   says TooBig w = not-passed _ (from-within l) w

@@ -1,5 +1,5 @@
 // Gate records: two inputs, two gates and a root each, renumbered with hashing, and the answer and the lists that were lent. Each is a word longer than
-// asked, but for a sixth list that is too short, and holds 77 where nothing is written.
+// asked, but for a last list that is too short, and holds 77 where nothing is written.
 use crate::circuits;
 use crate::say;
 use aig_records::GateRecord;

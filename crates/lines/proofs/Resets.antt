@@ -11,6 +11,8 @@ use lib.ListN.{length}
 use borrow.Author.Tests.{le-leb, lt-leb, leb-true, leb-false, eq-eqb, ne-eqb, eqb-true}
 use Rattle.circuit.specs.Circuit.{isReset, firstStray}
 use Rattle.circuit.specs.Ordered.{countFrom}
+use Rattle.circuit.specs.Claims.{IsReset}
+use Rattle.circuit.proofs.Checks.{is-stray}
 use Rattle.token.specs.Answer.{headerFieldAt}
 use Rattle.token.specs.declared.Token.{Token}
 use Rattle.token.specs.declared.Token.the-variants.{Value, Refused}
@@ -19,27 +21,9 @@ use Rattle.lines.specs.declared.Fault.the-variants.{Number, Missing, Res
 use Rattle.lines.specs.Reading.{Read, got, no, _▸_, rowAt}
 use Rattle.lines.specs.Lines.{isByte, byteAt, spaceAt, newlineAt, numberOf, numberAt, lineAt}
 use Rattle.lines.specs.Lines.{LatchLine, latchLine, resetsOf, resetLineAt, resetAt, latchAt, latchesAt, wordOf}
-use Rattle.lines.specs.Spelling.{Allowed}
 use Rattle.lines.specs.Stray.{Stray}
 use Rattle.lines.proofs.Answers.{byte-is}
 use Rattle.lines.proofs.Heads.{two, got-same, number-within}
-
--- the test is the statement
-
-pub allowed-is : (own r : ℕ) → Allowed own r → isReset own r ≡ true
-allowed-is own r (inl h) = rw (le-leb r 1 h)
-allowed-is own r (inr e) = go (leb r 1)
-  where
-    go : (t : Bool) → (t || eqb r own) ≡ true
-    go true = refl
-    go false = eq-eqb r own e
-
-pub is-allowed : (own r : ℕ) → isReset own r ≡ true → Allowed own r
-is-allowed own r e = go (leb r 1) refl e
-  where
-    go : (t : Bool) → leb r 1 ≡ t → (t || eqb r own) ≡ true → Allowed own r
-    go true f g = inl (leb-true r 1 f)
-    go false f g = inr (eqb-true r own g)
 
 -- a line with a reset is a line with a number that may be one
 
@@ -163,16 +147,6 @@ latches-no-stray s most first n at ls end e =
 
 -- a line is refused by 22 exactly where its reset is a stray
 
-stray-is : (own r : ℕ) → (Allowed own r → ⊥) → isReset own r ≡ false
-stray-is own r h = go (isReset own r) refl
-  where
-    go : (t : Bool) → isReset own r ≡ t → t ≡ false
-    go true e = absurd (h (is-allowed own r e))
-    go false e = refl
-
-is-stray : (own r : ℕ) → isReset own r ≡ false → Allowed own r → ⊥
-is-stray own r e a = let f = allowed-is own r a in let z : _≡_ {A = Bool} true false = cc in let n : _≡_ {A = ℕ} 0 1 = cc in omega arith
-
 -- bytes and numbers have other refusals
 number-other : (s : List ℕ) (most at place : ℕ) → numberAt s most at ≡ no Reset place → ⊥
 unfolding numberAt
@@ -192,19 +166,19 @@ byte-other {A} a s b at place e = go (isByte s b at) e
 
 module _ (s : List ℕ) (most own : ℕ) where
   line-refused : (at place : ℕ) → resetLineAt s most own at ≡ no Reset place
-      → (r : ℕ) × (after : ℕ) × (numberAt s most at ≡ got r after) × (place ≡ at) × (Allowed own r → ⊥)
+      → (r : ℕ) × (after : ℕ) × (numberAt s most at ≡ got r after) × (place ≡ at) × (IsReset own r → ⊥)
   unfolding resetLineAt
   line-refused at place e = go (numberAt s most at) refl e
     where
       by : (r p : ℕ) → numberAt s most at ≡ got r p → (t : Bool) → isReset own r ≡ t
           → cond t (newlineAt s p ▸ λ _ at₂. got r at₂) (no Reset at) ≡ no Reset place
-          → (x : ℕ) × (after : ℕ) × (numberAt s most at ≡ got x after) × (place ≡ at) × (Allowed own x → ⊥)
+          → (x : ℕ) × (after : ℕ) × (numberAt s most at ≡ got x after) × (place ≡ at) × (IsReset own x → ⊥)
       by r p f true g h = absurd (byte-other r s 10 p place h)
-      by r p f false g h = let there : place ≡ at = cc in (r, p, f, there, is-stray own r g)
+      by r p f false g h = let there : place ≡ at = cc in (r, p, f, there, is-stray own r .0 g)
 
       go : (R : Read ℕ) → numberAt s most at ≡ R
           → (R ▸ λ r at₁. cond (isReset own r) (newlineAt s at₁ ▸ λ _ at₂. got r at₂) (no Reset at)) ≡ no Reset place
-          → (x : ℕ) × (after : ℕ) × (numberAt s most at ≡ got x after) × (place ≡ at) × (Allowed own x → ⊥)
+          → (x : ℕ) × (after : ℕ) × (numberAt s most at ≡ got x after) × (place ≡ at) × (IsReset own x → ⊥)
       go (got r p) f g = by r p f (isReset own r) refl g
       go (no why p) f g = absurd (number-other s most at place (f ∙ g))
 
@@ -253,7 +227,7 @@ module _ (s : List ℕ) (most own : ℕ) where
   unfolding latchAt resetAt resetLineAt
   stray-refused at place t =
       let field : numberAt s most (t .space + 1) ≡ got (t .reset) (t .after) = ap (numberAt s most) (sym (t .behind)) ∙ t .field in
-      rw (t .number, t .spaced, byte-is s 32 (t .space) (t .spaced), field, stray-is own (t .reset) (t .stray)) (ap (no Reset) (sym (t .behind)))
+      rw (t .number, t .spaced, byte-is s 32 (t .space) (t .spaced), field, is-stray own (t .reset) .1 (t .stray)) (ap (no Reset) (sym (t .behind)))
 
   pub stray-exactly : (at place : ℕ) → (latchAt s most own at ≡ no Reset place) ↔ Stray s most own at place
   stray-exactly at place = (refused-stray at place, stray-refused at place)

@@ -3,9 +3,9 @@ use Prim.Native.Nat.{ℕ, _+_}
 use mathlib.Core.Path.{_≡_}
 use mathlib.Core.Bool.{true}
 use mathlib.Core.List.{List}
+use Rattle.circuit.specs.Claims.{IsReset}
 use Rattle.lines.specs.Reading.{got}
 use Rattle.lines.specs.Lines.{isByte, numberAt}
-use Rattle.lines.specs.Spelling.{Allowed}
 
 -- the line at `at` of a latch with the literal `own` has a next state, a space and, at `place`, a number within the limit that is not 0, 1 or the literal
 pub record Stray (s : List ℕ) (most own at place : ℕ) : Type 0 where
@@ -17,4 +17,4 @@ pub record Stray (s : List ℕ) (most own at place : ℕ) : Type 0 where
   pub spaced : isByte s 32 space ≡ true
   pub behind : place ≡ space + 1
   pub field : numberAt s most place ≡ got reset after
-  pub stray : Allowed own reset → ⊥
+  pub stray : IsReset own reset → ⊥

@@ -19,7 +19,7 @@ use Rattle.circuit.specs.Resets.{sideBySide}
 use Rattle.circuit.specs.Claims.{AllWithin, IsReset, AllReset, FirstOver, FirstStray}
 use Rattle.circuit.proofs.Tests.{Same, same, other, sameTest, AtMost, atMost, above, leTest, lt-or}
 use Rattle.circuit.proofs.Checks as checks
-use Rattle.circuit.proofs.Checks.{noneOver, oneOver, overTest, Stray, noneStray, oneStray, strayTest, no-stray}
+use Rattle.circuit.proofs.Checks.{noneOver, oneOver, overTest, Stray, noneStray, oneStray, strayTest, same-place, is-first-stray}
 use Rattle.circuit.proofs.Resets.{stray-exactly}
 use Rattle.circuit.proofs.Ordered.{countFrom-length, countFrom-getD}
 use Rattle.circuit.proofs.Listed.{within-left, within-right, within-join}
@@ -110,15 +110,6 @@ is-even w e = go (unevenIn w) (sumsTest w)
     go b (unequal f) = absurd (f e)
     go b (equal g) = refl
 
--- neither of two places is before the other
-same-place : (i j : ℕ) → ((i < j) → ⊥) → ((j < i) → ⊥) → i ≡ j
-same-place i j f g = cases (lt-or i j) (lt-or j i)
-  where
-    cases : (i < j) ⊎ (j ≤ i) → (j < i) ⊎ (i ≤ j) → i ≡ j
-    cases (inl h) r = absurd (f h)
-    cases (inr h) (inl r) = absurd (g r)
-    cases (inr h) (inr r) = omega arith
-
 -- where a member of a list stands
 pub in-place : (xs : List ℕ) (c : ℕ) → In c xs → (j : ℕ) × (j < length xs) × (getD xs j 0 ≡ c)
 in-place [] c i = absurd i
@@ -155,18 +146,6 @@ within-side b (x ∷ xs) (y ∷ ys) f g c (inr (inr i)) = within-side b xs ys (�
 -- check 22: the first reset at fault, and none
 none-stray : (ss rs : List ℕ) → AllReset ss rs → firstStray ss rs ≡ none
 none-stray ss rs f = stray-exactly ss rs .1 f
-
-is-first-stray : (ss rs : List ℕ) (r : ℕ) → FirstStray ss rs r → firstStray ss rs ≡ some r
-is-first-stray ss rs r k = go (firstStray ss rs) (strayTest ss rs)
-  where
-    go : (o : Option ℕ) → Stray ss rs o → o ≡ some r
-    go o (noneStray f) = absurd (no-stray ss rs r k f)
-    go o (oneStray r′ k′) =
-        let e = same-place (k′ .place) (k .place) (λ h. stray-at k′ (k .before (k′ .place) h)) (λ h. stray-at k (k′ .before (k .place) h)) in
-        ap some (k′ .isThere ∙ ap (λ (j : ℕ). getD rs j 0) e ∙ sym (k .isThere))
-      where
-        stray-at : {x : ℕ} (m : FirstStray ss rs x) → IsReset (getD ss (m .place) 0) (getD rs (m .place) 0) → ⊥
-        stray-at m h = m .isStray (subst⁻¹ (IsReset (getD ss (m .place) 0)) (m .isThere) h)
 
 -- the resets that pass it are not over 2V + 1: a latch's literal is at most 2 (I + L)
 pub resets-within : (O : Ordered) → length (O .nexts) ≡ length (O .resets) → AllReset (latchesOf O) (O .resets)

@@ -16,14 +16,14 @@ use Rattle.circuit.specs.Graph.{In}
 use Rattle.circuit.specs.Circuit.{isReset, firstStray}
 use Rattle.circuit.specs.Ordered.{countFrom}
 use Rattle.circuit.specs.Outcome.{limit, total}
-use Rattle.circuit.specs.Claims.{AllWithin}
+use Rattle.circuit.specs.Claims.{AllWithin, IsReset}
+use Rattle.circuit.proofs.Checks.{is-reset}
 use Rattle.circuit.proofs.Lists.{In-left, In-right}
 use Rattle.lines.specs.declared.Header.{Header}
 use Rattle.lines.specs.Limits.{Within}
 use Rattle.lines.specs.Lines.{LatchLine, latchLine, nextsOf, resetsOf}
 use Rattle.lines.specs.Sections.{Roots, rootsOf, headerOf, firstRoots, rootCount}
-use Rattle.lines.specs.Spelling.{Both, Nothing, Row, Line, Lines, Allowed, Reset, Latch, Latches, Count, Options, HeaderCounts, Properties, Sizes, Rooting}
-use Rattle.lines.proofs.Resets.{is-allowed}
+use Rattle.lines.specs.Spelling.{Both, Nothing, Row, Line, Lines, Reset, Latch, Latches, Count, Options, HeaderCounts, Properties, Sizes, Rooting}
 use Rattle.sections.specs.Bytes.{rowBytes, lineBytes, linesBytes, countBytes, countsBytes, keptBefore, upToLast, optional, afterTag, rootsBytes}
 use Rattle.sections.specs.Bytes.{resetBytes, latchBytes, latchesBytes}
 use Rattle.sections.specs.Claims.{Fit, latchLinesOf}
@@ -58,7 +58,7 @@ lines-spelled most vs within fit = (refl, row-spelled (Line most) lineBytes vs (
 
 -- latch lines
 
-reset-spelled : (most own r : ℕ) → r ≤ most → r < 2 ^ 64 → Allowed own r → Reset most own r (resetBytes r ++ (10 ∷ []))
+reset-spelled : (most own r : ℕ) → r ≤ most → r < 2 ^ 64 → IsReset own r → Reset most own r (resetBytes r ++ (10 ∷ []))
 unfolding resetBytes
 reset-spelled most own r within fits may = go (eqb r 0) refl
   where
@@ -66,7 +66,7 @@ reset-spelled most own r within fits may = go (eqb r 0) refl
     go true e = inr (at-last (λ _. 0) tt refl (eqb-true r 0 e))
     go false e = inl (in-a-row tt (32 ∷ []) (digitsOf r ++ (10 ∷ [])) refl (may, (within, fits, refl)))
 
-latch-spelled : (most own : ℕ) (l : LatchLine) → l .next ≤ most → l .reset ≤ most → most < 2 ^ 64 → Allowed own (l .reset)
+latch-spelled : (most own : ℕ) (l : LatchLine) → l .next ≤ most → l .reset ≤ most → most < 2 ^ 64 → IsReset own (l .reset)
     → Latch most own l (latchBytes (l .next) (l .reset))
 unfolding latchBytes
 latch-spelled most own l low small fits may =
@@ -92,7 +92,7 @@ latches-row most first k (l ∷ ls) low small fits pass =
     let rest = ap (λ (c : ℕ). firstStray (countFrom c (length ls)) (resetsOf ls)) later ∙ p .1 in (
       latchBytes (l .next) (l .reset),
       latchesBytes (nextsOf ls) (resetsOf ls),
-      latch-spelled most own l (low (l .next) (inl refl)) (small (l .reset) (inl refl)) fits (is-allowed own (l .reset) (p .0)),
+      latch-spelled most own l (low (l .next) (inl refl)) (small (l .reset) (inl refl)) fits (is-reset own (l .reset) .0 (p .0)),
       latches-row most first (suc k) ls (λ v i. low v (inr i)) (λ v i. small v (inr i)) fits rest,
       refl,
     )

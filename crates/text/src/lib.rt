@@ -78,17 +78,24 @@ fn digit_count(v: u64) -> usize
     n + few_digits(rest)
 }
 
-// The decimal digits of a number from a place on, where all of them fit. They are made from the last one to the first.
+// The decimal digits of a number from a place on, where all of them fit. They are made from the last ones to the first, two at a time.
 fn digits_from(out: &mut [u8], at: usize, v: u64, n: usize)
     requires { ⌜ (at + n ≤ length (now out)) × (n ≡ length (digitsOf v)) ⌝ }
     ensures { λ _. ⌜ now (out .exit) ≡ putAll (now (out .entry)) at (digitsOf v) ⌝ }
 {
     let mut place = at + n - 1;
     let mut rest = v;
-    while 10 <= rest {
+    while 100 <= rest {
+        let tenth = rest / 10;
         out[place] = digit(rest % 10);
-        place -= 1;
-        rest = rest / 10;
+        out[place - 1] = digit(tenth % 10);
+        place -= 2;
+        rest = tenth / 10;
+    }
+    if 10 <= rest {
+        out[place] = digit(rest % 10);
+        out[place - 1] = digit(rest / 10);
+        return;
     }
     out[place] = digit(rest);
 }
