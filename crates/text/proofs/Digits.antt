@@ -1,6 +1,6 @@
 -- The digits of a number, the last one apart: those of its tenth, and then its last digit. So they are counted, and put from the last to the first.
 -- Assumes nothing.
-use mathlib.Core.Path.{_≡_, refl, sym, ap, _∙_, subst}
+use mathlib.Core.Path.{_≡_, refl, sym, ap, _∙_}
 use mathlib.Core.Bool.{cond}
 use mathlib.Core.List.{List, [], _∷_, _++_}
 use Prim.Native.Nat.{ℕ, zero, suc, _+_, _-_, _/_, _%_, _^_, _≤_, _<_}
@@ -51,14 +51,22 @@ count-4 v low high = omega (arith, count-more v (omega arith) (omega arith), cou
 pub count-5 : (v : ℕ) → 10000 ≤ v → v < 100000 → length (digitsOf v) ≡ 5
 count-5 v low high = omega (arith, count-more v (omega arith) (omega arith), count-4 (v / 10) (omega arith) (omega arith))
 
-pub count-five : (v : ℕ) → 100000 ≤ v → v < 2 ^ 64 → length (digitsOf v) ≡ 5 + length (digitsOf (v / 100000))
-count-five v low fits =
-    let same : v / 10 / 10 / 10 / 10 / 10 ≡ v / 100000 = omega arith in
+pub count-6 : (v : ℕ) → 100000 ≤ v → v < 1000000 → length (digitsOf v) ≡ 6
+count-6 v low high = omega (arith, count-more v (omega arith) (omega arith), count-5 (v / 10) (omega arith) (omega arith))
+
+pub count-7 : (v : ℕ) → 1000000 ≤ v → v < 10000000 → length (digitsOf v) ≡ 7
+count-7 v low high = omega (arith, count-more v (omega arith) (omega arith), count-6 (v / 10) (omega arith) (omega arith))
+
+pub count-seven : (v : ℕ) → 10000000 ≤ v → v < 2 ^ 64 → length (digitsOf v) ≡ 7 + length (digitsOf (v / 10000000))
+count-seven v low fits =
+    let same : v / 10 / 10 / 10 / 10 / 10 / 10 / 10 ≡ v / 10000000 = omega arith in
     let one = count-more v (omega arith) fits in
     let two = count-more (v / 10) (omega arith) (omega arith) in
     let three = count-more (v / 10 / 10) (omega arith) (omega arith) in
     let four = count-more (v / 10 / 10 / 10) (omega arith) (omega arith) in
     let five = count-more (v / 10 / 10 / 10 / 10) (omega arith) (omega arith) in
+    let six = count-more (v / 10 / 10 / 10 / 10 / 10) (omega arith) (omega arith) in
+    let seven = count-more (v / 10 / 10 / 10 / 10 / 10 / 10) (omega arith) (omega arith) in
     omega (arith, ap (λ (x : ℕ). length (digitsOf x)) same)
 
 -- the digits of v are put from a place on, the last of them first: those of `rest` are left, and the last of these goes to `place`
@@ -88,34 +96,7 @@ module _ {out₀ : List ℕ} {at v : ℕ} {out : List ℕ} {place rest : ℕ} (f
         kept = ap length e ∙ length-set out place b ∙ f .kept;
       }
 
-  -- how far the place is from the front, by how many digits are left
-  pub room-for-two : 10 ≤ rest → 1 ≤ place
-  room-for-two ten = omega (arith, f .here, count-more rest ten (f .fits), digits-few (rest / 10) (omega (arith, f .fits)))
-
-  pub room-for-three : 100 ≤ rest → 2 ≤ place
-  room-for-three hundred =
-      omega (
-        arith,
-        f .here,
-        count-more rest (omega arith) (f .fits),
-        count-more (rest / 10) (omega arith) (omega (arith, f .fits)),
-        digits-few (rest / 10 / 10) (omega (arith, f .fits)),
-      )
-
   pub filling-last : (out′ : List ℕ) (b : ℕ) → rest < 10 → b ≡ 48 + rest → out′ ≡ set out place b → out′ ≡ putAll out₀ at (digitsOf v)
   filling-last out′ b one d e =
       let first : place ≡ at = omega (arith, f .here, count-1 rest one) in
       e ∙ ap (set out place) d ∙ ap (λ (i : ℕ). set out i (48 + rest)) first ∙ ap (putAll out at) (sym (digits-one rest one)) ∙ f .left
-
--- two digits at a time
-module _ {out₀ : List ℕ} {at v : ℕ} {out : List ℕ} {place rest : ℕ} (f : Filling out₀ at v out place rest) (out′ : List ℕ) (b : ℕ) (e : out′ ≡ set out place b) where
-  pub filling-two : (out″ : List ℕ) (a : ℕ) → 100 ≤ rest → b ≡ 48 + rest % 10 → a ≡ 48 + rest / 10 % 10 → out″ ≡ set out′ (place - 1) a
-      → Filling out₀ at v out″ (place - 2) (rest / 10 / 10)
-  filling-two out″ a hundred d d′ e′ =
-      let one = filling-more f out′ b (omega arith) d e in
-      let there : place - 1 - 1 ≡ place - 2 = omega arith in
-      subst (λ (p : ℕ). Filling out₀ at v out″ p (rest / 10 / 10)) there (filling-more one out″ a (omega arith) d′ e′)
-
-  pub filling-last-two : (out″ : List ℕ) (a : ℕ) → 10 ≤ rest → rest < 100 → b ≡ 48 + rest % 10 → a ≡ 48 + rest / 10 → out″ ≡ set out′ (place - 1) a
-      → out″ ≡ putAll out₀ at (digitsOf v)
-  filling-last-two out″ a ten few d d′ e′ = filling-last (filling-more f out′ b ten d e) out″ a (omega arith) d′ e′
