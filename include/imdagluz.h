@@ -17,9 +17,9 @@
 #include <stdint.h>
 
 /* The version of this header and of the archive that belongs to it. */
-#define IMDAGLUZ_VERSION "0.4.0"
+#define IMDAGLUZ_VERSION "0.5.0"
 #define IMDAGLUZ_VERSION_MAJOR 0
-#define IMDAGLUZ_VERSION_MINOR 4
+#define IMDAGLUZ_VERSION_MINOR 5
 #define IMDAGLUZ_VERSION_PATCH 0
 
 #ifdef __cplusplus
@@ -29,11 +29,18 @@ extern "C" {
 /* The largest V, I, L, G and R, and so the most words that a list of codes has: lists of this length, gates of pairs twice it, hold every circuit. */
 #define IMDAGLUZ_LIST 1048575
 
-/* The most bytes that a binary file has, as imdagluz_write_aig writes it, of a circuit with so many variables, roots and justice sets. */
-#define IMDAGLUZ_FILE_BYTES(variables, roots, sets) (76 + 8 * ((size_t)(variables) + (size_t)(roots) + (size_t)(sets)))
+/* The most bytes that a binary file has, as imdagluz_write_aig writes it, of a circuit with so many variables, latches, roots and justice sets. */
+#define IMDAGLUZ_FILE_BYTES(variables, latches, roots, sets) \
+    (76 + 8 * ((size_t)(variables) + (size_t)(latches) + (size_t)(roots) + (size_t)(sets)))
 
-/* Refusal numbers. 0 is success. imdagluz_delta gives 3 and 15 to 17, imdagluz_renumber 1 to 8, imdagluz_read_aig 1, 3, 10 to 12 and 15 to 21,
- * imdagluz_expand 1 to 3, imdagluz_write_aig 1 to 4 and 23. No function here gives 13 or 14, which are for a literal that a text file assigns, or 22.
+/* A latch's reset says its first value. It is a word of the same kind wherever a list of resets is read or written:
+ *   0                          the latch starts at 0
+ *   1                          it starts at 1
+ *   the latch's own literal    it starts at either: its first value is free. The own literal is the code of the latch's state as it is written, with its sign.
+ * Any other word is no reset. What 0 and 1 say is the first bit of that literal as it is written, so nothing is flipped where an odd one becomes even. */
+
+/* Refusal numbers. 0 is success. imdagluz_delta gives 3 and 15 to 17, imdagluz_renumber 1 to 8 and 22, imdagluz_read_aig 1, 3, 10 to 12 and 15 to 22,
+ * imdagluz_expand 1 to 3, imdagluz_write_aig 1 to 4, 22 and 23. No function here gives 13 or 14, which are for a literal that a text file assigns.
  * 9 is withdrawn, and its number is not used again. */
 enum {
     IMDAGLUZ_TOO_BIG = 1,          /* V, I, L, G or R is over 1,048,575 */
@@ -54,6 +61,7 @@ enum {
     IMDAGLUZ_UNDEFINED_TOP = 19,   /* M is above I+L+A: a variable that the header counts has no definition */
     IMDAGLUZ_ZERO_DELTA = 20,      /* a gate's first delta is zero: the gate would be its own first input */
     IMDAGLUZ_NUMBER_TOO_WIDE = 21, /* a number without a leading zero does not fit 64 bits, whatever its limit */
+    IMDAGLUZ_STRAY_RESET = 22,     /* a latch's reset is not 0, 1 or the latch's own literal */
     IMDAGLUZ_DISORDERED = 23       /* a gate's code is not above its first input, or its first input is below its second */
 };
 
@@ -92,21 +100,23 @@ enum {
  * odd; the codes 0 and 1 are constant false and true. V is the largest variable, and I, L, G and R count inputs, latches, gates and roots.
  *
  * Only read:
- *   top                              V
- *   counts, counts_length            five words: how many roots are outputs, bad states, constraints, fairness and justice literals
- *   flags                            the sum of the flags that are on, 0 to 7
- *   inputs, inputs_length            I codes
- *   states, states_length            L codes, the latches' states
- *   nexts, nexts_length              L codes, the latches' next states in the same order
- *   gates, gates_length              3G codes, of each gate its output, first and second input; the gates may stand in any order
- *   roots, roots_length              R codes: outputs, bad states, constraints, fairness, justice, in this order
+ *   top                                V
+ *   counts, counts_length              five words: how many roots are outputs, bad states, constraints, fairness and justice literals
+ *   flags                              the sum of the flags that are on, 0 to 7
+ *   inputs, inputs_length              I codes
+ *   states, states_length              L codes, the latches' states
+ *   nexts, nexts_length                L codes, the latches' next states in the same order
+ *   resets, resets_length              L words, the latches' resets in the same order
+ *   gates, gates_length                3G codes, of each gate its output, first and second input; the gates may stand in any order
+ *   roots, roots_length                R codes: outputs, bad states, constraints, fairness, justice, in this order
  * Written; a list may be longer than is asked here, and the words past those asked are never written:
- *   map, map_length                  V+1 words
- *   next_images, next_images_length  L words
- *   root_images, root_images_length  R words
- *   gates_out, gates_out_length      2G words
- *   scratch, scratch_length          3V+3+3G words
- *   answer, answer_length            3 words: the literal at fault, the number of gates made, the new largest variable
+ *   map, map_length                    V+1 words
+ *   next_images, next_images_length    L words
+ *   reset_images, reset_images_length  L words
+ *   root_images, root_images_length    R words
+ *   gates_out, gates_out_length        2G words
+ *   scratch, scratch_length            3V+3+3G words
+ *   answer, answer_length              3 words: the literal at fault, the number of gates made, the new largest variable
  *
  * Answers 0 on success. Then the lists hold
  *   answer       0; the number g of gates made, at most G; the new largest variable, which is I+L+g, at most V
@@ -115,11 +125,14 @@ enum {
  *                where the code given for one is odd, the odd literal became that even code. Besides the constant, inputs and latch states exactly
  *                the variables that a walked literal needs have an image
  *   next_images  what the next states became, in their order
+ *   reset_images the resets of the ordered circuit, in their order: 0 where the reset is 0, 1 where it is 1, and where it is the latch's own literal the new
+ *                one, which for latch j, counted from 0, is 2(I+1+j). So each latch starts as it did
  *   root_images  what the roots became, in their order
  *   gates_out    of each gate made the larger and then the smaller input; gate k, counted from 0, has the code 2(I+L+1+k), which is above both.
  *                The words from 2g to 2G-1 are 0
  *   scratch      3V+3+3G times 0.
- * Whatever bits inputs and latch states have, a literal with an image and its image have the same bit.
+ * Whatever bits inputs and latch states have, a literal with an image and its image have the same bit. Resets take no part in the walk: with others, all but
+ * reset_images is the same.
  * What is walked, one literal after the other: with IMDAGLUZ_TRIM off the outputs of the gates in their order, then next states, then roots; with it on
  * next states, then roots.
  *
@@ -137,40 +150,45 @@ enum {
  *   3  answer_length is below 3; this one writes nothing, not even to answer
  *   2  counts_length is not 5, or flags is over 7
  *   1  V, I, L, G or R is over 1,048,575, G being gates_length/3 rounded down
- *   2  the counts do not add up to R, nexts_length is not states_length, or gates_length is no multiple of three
- *   3  map, next_images, root_images, gates_out or scratch is shorter than is asked above
- *   4  a code is over 2V+1. The literal at fault is the first one: inputs, gates (output, first, second), latches (state, next), roots
+ *   2  the counts do not add up to R, nexts_length or resets_length is not states_length, or gates_length is no multiple of three
+ *   3  map, next_images, reset_images, root_images, gates_out or scratch is shorter than is asked above
+ *   4  a code or a reset is over 2V+1. The literal at fault is the first one: inputs, gates (output, first, second), latches (state, next, reset), roots
+ *   22 a reset is not 0, 1 or the latch's own literal. The literal at fault is the first such reset. It comes here, after 4 and before 5
  *   5  the variable of an input or a gate's output is that of the constant, or of one before it. The literal at fault is the first one: inputs, gates
  *   6  the variable of a latch's state is that of the constant, an input, a gate's output or a state before it. The literal at fault is the first one
  *   7  a literal that the walk reaches is defined nowhere. The literal at fault is that literal, as it was used
  *   8  a gate that the walk reaches needs itself. The literal at fault is that at which the walk saw it, a literal of such a gate, as it was used
  * Of 7 and 8 it is the one that the walk meets first; the scratch words hold every path, however deep, which is proved.
- * Every refusal but the first one leaves the literal at fault (0 for 1 to 3), 0 and 0 in answer. Refusals 1 to 4 leave the five other lists as they
- * were. Refusals 5 to 8 set the V+1 words of map to IMDAGLUZ_NO_IMAGE, and L words of next_images, R of root_images, 2G of gates_out and 3V+3+3G of
- * scratch to 0.
+ * Every refusal but the first one leaves the literal at fault (0 for 1 to 3), 0 and 0 in answer. Refusals 1 to 4 and 22 leave the six other lists as
+ * they were. Refusals 5 to 8 set the V+1 words of map to IMDAGLUZ_NO_IMAGE, and L words of next_images, L of reset_images, R of root_images, 2G of gates_out
+ * and 3V+3+3G of scratch to 0.
  *
  * Time: in proportion to the lists, whatever the circuit; with IMDAGLUZ_HASH on, the search for an equal gate follows at most 22 links. */
 uint32_t imdagluz_renumber(uint32_t top, const uint32_t *counts, size_t counts_length, uint32_t flags,
                            const uint32_t *inputs, size_t inputs_length,
                            const uint32_t *states, size_t states_length,
                            const uint32_t *nexts, size_t nexts_length,
+                           const uint32_t *resets, size_t resets_length,
                            const uint32_t *gates, size_t gates_length,
                            const uint32_t *roots, size_t roots_length,
                            uint32_t *map, size_t map_length,
                            uint32_t *next_images, size_t next_images_length,
+                           uint32_t *reset_images, size_t reset_images_length,
                            uint32_t *root_images, size_t root_images_length,
                            uint32_t *gates_out, size_t gates_out_length,
                            uint32_t *scratch, size_t scratch_length,
                            uint32_t *answer, size_t answer_length);
 
 /* Reads a binary AIGER file: a header M I L O A with the optional counts B C J F of AIGER 1.9, latch lines, the root lines in the file's order (outputs,
- * bad states, constraints, justice sizes, justice literals, fairness), then A gates of two deltas each. A latch's reset field is read as a literal and
- * dropped. Nothing after the last gate is looked at: the symbols, if there are any, begin at the byte that answer[0] says.
+ * bad states, constraints, justice sizes, justice literals, fairness), then A gates of two deltas each. A latch's line has its next state and, after a
+ * space, its reset; where there is no reset it is 0. Nothing after the last gate is looked at: the symbols, if there are any, begin at the byte that
+ * answer[0] says.
  *
  * The bytes are only read:
  *   bytes, length          the file, or any bytes
  * Written; a list may be longer than is asked here:
  *   nexts, nexts_length    L words
+ *   resets, resets_length  L words
  *   gates, gates_length    2A words
  *   sizes, sizes_length    J words
  *   roots, roots_length    R words
@@ -184,6 +202,7 @@ uint32_t imdagluz_renumber(uint32_t top, const uint32_t *counts, size_t counts_l
  *           outputs, bad states, constraints, fairness and justice literals, in this order; they add up to R, at most 1,048,575. 10: J, the number of
  *           justice sets
  *   nexts   the next states of the latches, in their order
+ *   resets  their resets: 0, 1, or for latch j, counted from 0, its own literal 2(I+1+j)
  *   gates   of each gate the larger and then the smaller input: its code less the first delta, and that less the second. The code is above both; the
  *           two may be equal
  *   sizes   how many literals each justice set has; they add up to answer[9]
@@ -201,9 +220,10 @@ uint32_t imdagluz_renumber(uint32_t top, const uint32_t *counts, size_t counts_l
  *       over its limit, which is 1,048,575 for M, O, B, C, J and F, M for I, M-I for L, M-I-L for A
  * At the byte after the header's newline:
  *   19  M is above I+L+A
- *   3   nexts is shorter than L, gates than 2A, or sizes than J
+ *   3   nexts or resets is shorter than L, gates than 2A, or sizes than J
  * In the lines that follow, as they come:
  *   10, 11, 21, 12  of a literal or a reset, whose limit is 2M+1, or of a justice size, whose limit is 1,048,575, at its first byte
+ *   22  a reset that was read without one of these four is not 0, 1 or the latch's own literal: its first byte, whatever follows it
  *   18  no newline ends the line, or after a latch's next state neither a space nor a newline stands: that byte
  * At the byte after the last justice size (where J is 0: after the last constraint):
  *   1   R is over 1,048,575, the sizes included
@@ -211,11 +231,13 @@ uint32_t imdagluz_renumber(uint32_t top, const uint32_t *counts, size_t counts_l
  * In the gates:
  *   15, 16, 17  of a delta, as imdagluz_delta has them, at its first byte
  *   20  a gate's first delta is zero, in however many bytes, and its second one was read without 15, 16 or 17: the first byte of the first one.
- * A refusal, but for that of a short answer list, leaves every word of nexts, gates, sizes and roots 0, however long the list: 3 for a short list too.
+ * A refusal, but for that of a short answer list, leaves every word of nexts, resets, gates, sizes and roots 0, however long the list: 3 for a short list
+ * too.
  *
  * Time: in proportion to the bytes that are read; a refusal's in proportion to the lists too, which it clears. */
 uint32_t imdagluz_read_aig(const uint8_t *bytes, size_t length,
                            uint32_t *nexts, size_t nexts_length,
+                           uint32_t *resets, size_t resets_length,
                            uint32_t *gates, size_t gates_length,
                            uint32_t *sizes, size_t sizes_length,
                            uint32_t *roots, size_t roots_length,
@@ -235,7 +257,8 @@ uint32_t imdagluz_read_aig(const uint8_t *bytes, size_t length,
  *   input_codes  2, 4, .., 2I
  *   state_codes  2(I+1), 2(I+2), .., 2(I+L)
  *   triples      of gate k, counted from 0, its output 2(I+L+1+k) and its two inputs in their order.
- * With I+L+G for the largest variable, and next states, root counts and roots as imdagluz_read_aig gave them, they are a circuit for imdagluz_renumber.
+ * With I+L+G for the largest variable, and next states, resets, root counts and roots as imdagluz_read_aig gave them, they are a circuit for
+ * imdagluz_renumber.
  * A file that was taken always renumbers: with those and lists that are long enough imdagluz_renumber succeeds, under every setting of the flags.
  *
  * Or answers a refusal, the first of these that applies, and writes nothing:
@@ -254,6 +277,7 @@ uint32_t imdagluz_expand(uint32_t inputs, uint32_t latches, const uint32_t *gate
  *   inputs                 I
  *   counts, counts_length  five words: how many roots are outputs, bad states, constraints, fairness and justice literals
  *   nexts, nexts_length    L codes, the latches' next states
+ *   resets, resets_length  L words, their resets: 0, 1, or for latch j, counted from 0, its own literal 2(I+1+j)
  *   gates, gates_length    2G codes, of each gate the larger and then the smaller input; the two may be equal
  *   sizes, sizes_length    J words, how many literals each justice set has; they add up to counts[4]. A set may be empty
  *   roots, roots_length    R codes: outputs, bad states, constraints, fairness, justice, in this order
@@ -264,18 +288,19 @@ uint32_t imdagluz_expand(uint32_t inputs, uint32_t latches, const uint32_t *gate
  * Answers 0 on success. Then they hold
  *   answer  0; how many bytes the file has
  *   out     the file: the header with M = V, in which of the optional counts B C J F those past the last that is not 0 are left out; a line for each
- *           latch, with its next state and no reset, so that it starts at 0; the root lines in the file's order (outputs, bad states, constraints, justice
- *           sizes, justice literals, fairness); of each gate its code less the larger input, and that less the smaller one, each delta in its fewest bytes.
- *           There are no symbols and no comment.
- * The same circuit always gives the same bytes. A file has at most IMDAGLUZ_FILE_BYTES(V, R, J) bytes, and so never more than 25,165,876: where so many are
- * lent, 3 is not given for out, and nothing is measured first.
+ *           latch, with its next state and, where the reset is not 0, a space and the reset; the root lines in the file's order (outputs, bad states,
+ *           constraints, justice sizes, justice literals, fairness); of each gate its code less the larger input, and that less the smaller one, each delta
+ *           in its fewest bytes. There are no symbols and no comment.
+ * The same circuit always gives the same bytes. A file has at most IMDAGLUZ_FILE_BYTES(V, L, R, J) bytes, and so never more than 33,554,476: where so many
+ * are lent, 3 is not given for out, and nothing is measured first.
  *
  * Or answers a refusal, the first of these that applies; no refusal writes a byte of out:
  *   3   answer_length is below 2; this one writes nothing, not even to answer
  *   2   counts_length is not 5
  *   1   I, L, G, R, V or J is over 1,048,575, G being gates_length/2 rounded down
- *   2   the counts do not add up to R, the sizes do not add up to counts[4], or gates_length is odd
- *   4   a code is over 2V+1. The literal at fault is the first one: gates (larger, smaller), nexts, roots
+ *   2   the counts do not add up to R, the sizes do not add up to counts[4], resets_length is not nexts_length, or gates_length is odd
+ *   4   a code or a reset is over 2V+1. The literal at fault is the first one: gates (larger, smaller), latches (next, reset), roots
+ *   22  a reset is not 0, 1 or the latch's own literal. The literal at fault is the first such reset
  *   23  a gate's code is not above its first input, or its first input is below its second. The literal at fault is the first such gate's own code
  *   3   out is shorter than the file; how many bytes it has stands in answer[1].
  * Every refusal but the first one leaves in answer[0] the literal at fault, 0 where none is named, and in answer[1] 0, but for the last one.
@@ -283,6 +308,7 @@ uint32_t imdagluz_expand(uint32_t inputs, uint32_t latches, const uint32_t *gate
  * Time: in proportion to the lists and the bytes written. */
 uint32_t imdagluz_write_aig(uint32_t inputs, const uint32_t *counts, size_t counts_length,
                             const uint32_t *nexts, size_t nexts_length,
+                            const uint32_t *resets, size_t resets_length,
                             const uint32_t *gates, size_t gates_length,
                             const uint32_t *sizes, size_t sizes_length,
                             const uint32_t *roots, size_t roots_length,

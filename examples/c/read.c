@@ -1,7 +1,7 @@
 /* Reads a binary AIGER file with imdagluz_read_aig, makes its lists with imdagluz_expand, renumbers it with imdagluz_renumber, and prints the numbers of the
- * ordered circuit that comes of it.
+ * ordered circuit that comes of it, with what its latches start at.
  *
- *   read         the half adder of the AIGER paper
+ *   read         the half adder of the AIGER paper, and its flip-flop, which here starts at 1
  *   read FILE    the binary AIGER file FILE
  *
  * Exit status: 0 when the file is taken and renumbered and every line was written, 1 when it is refused or a line could not be written, 2 when it is called
@@ -26,11 +26,20 @@ static int printed(int status) {
     return 1;
 }
 
+/* How many latches start at 0, at 1, and at either. */
+static void print_starts(const char *what, const uint32_t *resets, uint32_t latches) {
+    uint32_t at[3] = {0};
+    for (uint32_t j = 0; j < latches; j++) at[resets[j] < 2 ? resets[j] : 2]++;
+    if (latches > 0) printf("%s: latches that start at 0: %" PRIu32 ", at 1: %" PRIu32 ", at either: %" PRIu32 "\n", what, at[0], at[1], at[2]);
+}
+
 static int renumber(const uint8_t *bytes, size_t length) {
     /* Lists of the limits hold every file, so nothing is measured first. */
-    uint32_t *nexts = lend(IMDAGLUZ_LIST), *gates = lend(2 * IMDAGLUZ_LIST), *sizes = lend(IMDAGLUZ_LIST), *roots = lend(IMDAGLUZ_LIST);
+    uint32_t *nexts = lend(IMDAGLUZ_LIST), *resets = lend(IMDAGLUZ_LIST), *gates = lend(2 * IMDAGLUZ_LIST);
+    uint32_t *sizes = lend(IMDAGLUZ_LIST), *roots = lend(IMDAGLUZ_LIST);
     uint64_t read[11];
-    uint32_t refused = imdagluz_read_aig(bytes, length, nexts, IMDAGLUZ_LIST, gates, 2 * IMDAGLUZ_LIST, sizes, IMDAGLUZ_LIST, roots, IMDAGLUZ_LIST, read, 11);
+    uint32_t refused = imdagluz_read_aig(bytes, length, nexts, IMDAGLUZ_LIST, resets, IMDAGLUZ_LIST, gates, 2 * IMDAGLUZ_LIST, sizes, IMDAGLUZ_LIST,
+                                         roots, IMDAGLUZ_LIST, read, 11);
     if (refused != 0) {
         printf("refused %" PRIu32 " at byte %" PRIu64 "\n", refused, read[0]);
         return 1;
@@ -40,6 +49,7 @@ static int renumber(const uint8_t *bytes, size_t length) {
     printf("read: %" PRIu64 " of %zu bytes; largest variable %" PRIu32 ", inputs %" PRIu32 ", latches %" PRIu32 ", gates %" PRIu32 ", roots %" PRIu32
            " (outputs %" PRIu32 ", bad %" PRIu32 ", constraints %" PRIu32 ", fairness %" PRIu32 ", justice %" PRIu32 " in %" PRIu64 " sets)\n",
            read[0], length, top, inputs, latches, made, count, counts[0], counts[1], counts[2], counts[3], counts[4], read[10]);
+    print_starts("read", resets, latches);
 
     uint32_t *input_codes = lend(inputs), *state_codes = lend(latches), *triples = lend(3 * (size_t)made);
     refused = imdagluz_expand(inputs, latches, gates, 2 * (size_t)made, input_codes, inputs, state_codes, latches, triples, 3 * (size_t)made);
@@ -49,20 +59,21 @@ static int renumber(const uint8_t *bytes, size_t length) {
     }
 
     size_t scratch_words = 3 * (size_t)top + 3 + 3 * (size_t)made;
-    uint32_t *map = lend(top + 1), *next_images = lend(latches), *root_images = lend(count), *gates_out = lend(2 * (size_t)made);
-    uint32_t *scratch = lend(scratch_words);
+    uint32_t *map = lend(top + 1), *next_images = lend(latches), *reset_images = lend(latches), *root_images = lend(count);
+    uint32_t *gates_out = lend(2 * (size_t)made), *scratch = lend(scratch_words);
     uint32_t answer[3];
     refused = imdagluz_renumber(top, counts, 5, IMDAGLUZ_TRIM | IMDAGLUZ_HASH | IMDAGLUZ_FOLD, input_codes, inputs, state_codes, latches, nexts, latches,
-                                triples, 3 * (size_t)made, roots, count, map, top + 1, next_images, latches, root_images, count, gates_out, 2 * (size_t)made,
-                                scratch, scratch_words, answer, 3);
+                                resets, latches, triples, 3 * (size_t)made, roots, count, map, top + 1, next_images, latches, reset_images, latches,
+                                root_images, count, gates_out, 2 * (size_t)made, scratch, scratch_words, answer, 3);
     if (refused != 0) printf("refused %" PRIu32 " in renumbering, literal %" PRIu32 "\n", refused, answer[0]);
     else {
         printf("renumbered with trim, hash and fold: gates %" PRIu32 ", largest variable %" PRIu32 "\n", answer[1], answer[2]);
+        print_starts("renumbered", reset_images, latches);
         if (count > 0) printf("the first root is %" PRIu32 ", the last %" PRIu32 "\n", root_images[0], root_images[count - 1]);
         uint32_t last = 2 * answer[1];
         if (last > 0) printf("the last gate is %" PRIu32 " = %" PRIu32 " & %" PRIu32 "\n", 2 * answer[2], gates_out[last - 2], gates_out[last - 1]);
     }
-    uint32_t *lent[] = {nexts, gates, sizes, roots, input_codes, state_codes, triples, map, next_images, root_images, gates_out, scratch};
+    uint32_t *lent[] = {nexts, resets, gates, sizes, roots, input_codes, state_codes, triples, map, next_images, reset_images, root_images, gates_out, scratch};
     for (size_t i = 0; i < sizeof lent / sizeof lent[0]; i++) free(lent[i]);
     return refused != 0;
 }
@@ -83,8 +94,11 @@ static uint8_t *bytes_of(const char *name, size_t *length) {
 }
 
 int main(int argc, char **argv) {
-    static const uint8_t half_adder[] = "aig 5 2 0 2 3\n10\n6\n\2\2\3\2\1\2";
-    if (argc == 1) return printed(renumber(half_adder, sizeof half_adder - 1));
+    static const uint8_t half_adder[] = "aig 5 2 0 2 3\n10\n6\n\2\2\3\2\1\2", flip_flop[] = "aig 7 2 1 2 4\n14 1\n6\n7\n\2\4\3\4\1\2\2\10";
+    if (argc == 1) {
+        int status = renumber(half_adder, sizeof half_adder - 1);
+        return printed(renumber(flip_flop, sizeof flip_flop - 1) | status);
+    }
     if (argc != 2) {
         fputs("usage: read [FILE]\n", stderr);
         return 2;

@@ -6,21 +6,22 @@
 #include <stdio.h>
 #include <string.h>
 
-enum { LISTS = 12, COUNTS = 0, MAP = 6, SCRATCH = 10, ANSWER = 11, HELD = 9 };
+enum { LISTS = 14, COUNTS = 0, MAP = 7, SCRATCH = 12, ANSWER = 13, HELD = 9 };
 
-static const char *const names[LISTS] = {"counts", "inputs", "states", "nexts", "gates", "roots", "map", "next_images", "root_images", "gates_out", "scratch", "answer"};
+static const char *const names[LISTS] = {"counts", "inputs", "states", "nexts", "resets", "gates", "roots",
+                                          "map", "next_images", "reset_images", "root_images", "gates_out", "scratch", "answer"};
 
-/* The empty circuit, V = 0, with the list EMPTY (and the five that are always empty) at the pointer `at`. */
+/* The empty circuit, V = 0, with the list EMPTY (and those that are always empty) at the pointer `at`. */
 static uint32_t renumber(int empty, uint32_t *at, uint32_t answer[3]) {
     static const uint32_t none[5] = {0};
     uint32_t map[1], scratch[3];
-    uint32_t *lists[LISTS] = {(uint32_t *)none, at, at, at, at, at, map, at, at, at, scratch, answer};
-    size_t lengths[LISTS] = {5, 0, 0, 0, 0, 0, 1, 0, 0, 0, 3, 3};
+    uint32_t *lists[LISTS] = {(uint32_t *)none, at, at, at, at, at, at, map, at, at, at, at, scratch, answer};
+    size_t lengths[LISTS] = {5, 0, 0, 0, 0, 0, 0, 1, 0, 0, 0, 0, 3, 3};
     lists[empty] = at, lengths[empty] = 0;
     memset(answer, 0, 3 * sizeof *answer);
     return imdagluz_renumber(0, lists[0], lengths[0], 0, lists[1], lengths[1], lists[2], lengths[2], lists[3], lengths[3], lists[4], lengths[4],
                              lists[5], lengths[5], lists[6], lengths[6], lists[7], lengths[7], lists[8], lengths[8], lists[9], lengths[9],
-                             lists[10], lengths[10], lists[11], lengths[11]);
+                             lists[10], lengths[10], lists[11], lengths[11], lists[12], lengths[12], lists[13], lengths[13]);
 }
 
 /* A success, or the refusal for a list that has to be there. */
@@ -41,15 +42,16 @@ int main(void) {
     for (int null = 0; null < 2; null++) {
         uint32_t one[1] = {HELD}, *at = null ? null_words : one;
         uint64_t words[11], word[1] = {HELD};
-        good &= imdagluz_read_aig(empty_circuit, 14, at, 0, at, 0, at, 0, at, 0, words, 11) == 0 && words[0] == 14 && one[0] == HELD;
-        good &= imdagluz_read_aig(null ? null_bytes : byte, 0, at, 0, at, 0, at, 0, at, 0, words, 11) == 18 && words[0] == 0;
-        good &= imdagluz_read_aig(empty_circuit, 14, at, 0, at, 0, at, 0, at, 0, null ? (uint64_t *)NULL : word, 0) == 3 && word[0] == HELD && one[0] == HELD;
+        good &= imdagluz_read_aig(empty_circuit, 14, at, 0, at, 0, at, 0, at, 0, at, 0, words, 11) == 0 && words[0] == 14 && one[0] == HELD;
+        good &= imdagluz_read_aig(null ? null_bytes : byte, 0, at, 0, at, 0, at, 0, at, 0, at, 0, words, 11) == 18 && words[0] == 0;
+        good &= imdagluz_read_aig(empty_circuit, 14, at, 0, at, 0, at, 0, at, 0, at, 0, null ? (uint64_t *)NULL : word, 0) == 3;
+        good &= word[0] == HELD && one[0] == HELD;
         uint32_t none[5] = {0};
         uint8_t *bytes = null ? null_bytes : byte, file[14];
-        good &= imdagluz_write_aig(0, none, 5, at, 0, at, 0, at, 0, at, 0, bytes, 0, words, 2) == 3 && words[0] == 0 && words[1] == 14 && byte[0] == HELD;
-        good &= imdagluz_write_aig(0, none, 5, at, 0, at, 0, at, 0, at, 0, file, 14, words, 2) == 0 && memcmp(file, empty_circuit, 14) == 0;
-        good &= imdagluz_write_aig(0, at, 0, at, 0, at, 0, at, 0, at, 0, bytes, 0, words, 2) == 2 && words[0] == 0 && words[1] == 0;
-        good &= imdagluz_write_aig(0, none, 5, at, 0, at, 0, at, 0, at, 0, bytes, 0, null ? (uint64_t *)NULL : word, 0) == 3 && word[0] == HELD;
+        good &= imdagluz_write_aig(0, none, 5, at, 0, at, 0, at, 0, at, 0, at, 0, bytes, 0, words, 2) == 3 && words[0] == 0 && words[1] == 14 && byte[0] == HELD;
+        good &= imdagluz_write_aig(0, none, 5, at, 0, at, 0, at, 0, at, 0, at, 0, file, 14, words, 2) == 0 && memcmp(file, empty_circuit, 14) == 0;
+        good &= imdagluz_write_aig(0, at, 0, at, 0, at, 0, at, 0, at, 0, at, 0, bytes, 0, words, 2) == 2 && words[0] == 0 && words[1] == 0;
+        good &= imdagluz_write_aig(0, none, 5, at, 0, at, 0, at, 0, at, 0, at, 0, bytes, 0, null ? (uint64_t *)NULL : word, 0) == 3 && word[0] == HELD;
         good &= one[0] == HELD && byte[0] == HELD;
         good &= imdagluz_expand(0, 0, at, 0, at, 0, at, 0, at, 0) == 0 && imdagluz_expand(1, 0, at, 0, at, 0, at, 0, at, 0) == 3 && one[0] == HELD;
     }

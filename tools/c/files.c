@@ -6,9 +6,9 @@
 #include <stdio.h>
 #include <string.h>
 
-enum { NEXTS, GATES, SIZES, ROOTS, LISTS, WORDS = 11, LENT = 12, PAST = 4, HELD = 9, MOST = 2 * IMDAGLUZ_LIST + PAST };
+enum { NEXTS, RESETS, GATES, SIZES, ROOTS, LISTS, WORDS = 11, LENT = 12, PAST = 4, HELD = 9, MOST = 2 * IMDAGLUZ_LIST + PAST };
 
-static const char *const names[LISTS] = {"nexts", "gates", "sizes", "roots"};
+static const char *const names[LISTS] = {"nexts", "resets", "gates", "sizes", "roots"};
 static uint32_t lists[LISTS][MOST];
 static uint64_t answer[LENT + PAST];
 static int cases, good = 1;
@@ -25,8 +25,8 @@ static void fill(const size_t lengths[LISTS]) {
 }
 
 static uint32_t read_file(const uint8_t *bytes, size_t length, const size_t lengths[LISTS], size_t answer_length) {
-    return imdagluz_read_aig(bytes, length, lists[NEXTS], lengths[NEXTS], lists[GATES], lengths[GATES], lists[SIZES], lengths[SIZES],
-                             lists[ROOTS], lengths[ROOTS], answer, answer_length);
+    return imdagluz_read_aig(bytes, length, lists[NEXTS], lengths[NEXTS], lists[RESETS], lengths[RESETS], lists[GATES], lengths[GATES],
+                             lists[SIZES], lengths[SIZES], lists[ROOTS], lengths[ROOTS], answer, answer_length);
 }
 
 /* Whether the first words of a list are those given (or 0, where none are), and the others what the list held. */
@@ -48,7 +48,7 @@ static void refuses(const char *what, const uint8_t *bytes, size_t length, const
 }
 
 /* A success: the eleven answer words, the words of each list that hold the circuit, and every other word what it was. */
-struct circuit { uint64_t words[WORDS]; uint32_t nexts[2], gates[4], sizes[2], roots[6]; };
+struct circuit { uint64_t words[WORDS]; uint32_t nexts[3], resets[3], gates[4], sizes[2], roots[6]; };
 
 static void takes(const char *what, const uint8_t *bytes, size_t length, const size_t lengths[LISTS], const struct circuit *c) {
     fill(lengths);
@@ -56,13 +56,14 @@ static void takes(const char *what, const uint8_t *bytes, size_t length, const s
     size_t roots = 0;
     for (int j = WORDS; j < LENT + PAST; j++) same &= answer[j] == HELD;
     for (int j = 5; j < 10; j++) roots += c->words[j];
-    same &= holds(lists[NEXTS], lengths[NEXTS] + PAST, c->nexts, c->words[3]) && holds(lists[GATES], lengths[GATES] + PAST, c->gates, 2 * c->words[4])
+    same &= holds(lists[NEXTS], lengths[NEXTS] + PAST, c->nexts, c->words[3]) && holds(lists[RESETS], lengths[RESETS] + PAST, c->resets, c->words[3]);
+    same &= holds(lists[GATES], lengths[GATES] + PAST, c->gates, 2 * c->words[4])
         && holds(lists[SIZES], lengths[SIZES] + PAST, c->sizes, c->words[10]) && holds(lists[ROOTS], lengths[ROOTS] + PAST, c->roots, roots);
     if (!same) failed(what);
     cases++;
 }
 
-static const size_t some[LISTS] = {8, 8, 8, 8}, most[LISTS] = {IMDAGLUZ_LIST, 2 * IMDAGLUZ_LIST, IMDAGLUZ_LIST, IMDAGLUZ_LIST};
+static const size_t some[LISTS] = {8, 8, 8, 8, 8}, most[LISTS] = {IMDAGLUZ_LIST, IMDAGLUZ_LIST, 2 * IMDAGLUZ_LIST, IMDAGLUZ_LIST, IMDAGLUZ_LIST};
 
 /* The table of files: what each is answered. A file that is taken names the bytes it takes; the row with 1048575 justice literals needs that many roots. */
 #define FILE_OF(text) text, sizeof text - 1
@@ -94,10 +95,10 @@ static const struct row { const char *file; size_t length; uint32_t number; uint
     {FILE_OF("aig 0 0 0 0 0 0 0 2\n1048575\n1\n"), 1, 30},
     {FILE_OF("aig 0 0 0 0 0 0 0 1\n1048575\n"), 10, 28},
     {FILE_OF("aig 4 2 0 0 2 0 0 1 1\n1\n6\n8\n\2\2\3\3"), 0, 32},
-    {FILE_OF("aig 2 1 1 0 0\n2 3\n"), 0, 18},
+    {FILE_OF("aig 2 1 1 0 0\n2 3\n"), 22, 16},
     {FILE_OF("aig 2 1 1 0 0\n2 4\n"), 0, 18},
     {FILE_OF("aig 2 1 1 0 0\n2 6\n"), 12, 16},
-    {FILE_OF("aig 2 1 1 0 0\n2 3"), 18, 17},
+    {FILE_OF("aig 2 1 1 0 0\n2 3"), 22, 16},
     {FILE_OF("aig 2 1 1 0 0\n2 \n"), 10, 16},
     {FILE_OF("aig 3 2 0 1 1\n6\n\0\2"), 20, 16},
     {FILE_OF("aig 3 2 0 1 1\n6\n\200\0\2"), 20, 16},
@@ -115,13 +116,34 @@ static const struct row { const char *file; size_t length; uint32_t number; uint
     {FILE_OF("aig 3 2 0 1 1\n6\n\0\0"), 20, 16},
     {FILE_OF("aig 3 2 0 1 1\n6\n\2\0"), 0, 18},
     {FILE_OF("aig 4 2 0 1 2\n6\n\2\2\0\2"), 20, 18},
+    /* and of resets: each kind that is taken; the own literal negated, an input, another latch, a gate; the number's own refusals before 22, and 22 before 18
+     * and before all that follows; after 19 */
+    {FILE_OF("aig 2 1 1 0 0\n2 0\n"), 0, 18},
+    {FILE_OF("aig 2 1 1 0 0\n2 1\n"), 0, 18},
+    {FILE_OF("aig 2 1 1 0 0\n2\n"), 0, 16},
+    {FILE_OF("aig 2 1 1 0 0\n2 5\n"), 22, 16},
+    {FILE_OF("aig 2 1 1 0 0\n2 2\n"), 22, 16},
+    {FILE_OF("aig 2 1 1 0 0\n2 5x"), 22, 16},
+    {FILE_OF("aig 2 1 1 0 0\n2 4x"), 18, 17},
+    {FILE_OF("aig 2 1 1 0 0\n2 4"), 18, 17},
+    {FILE_OF("aig 2 1 1 0 0\n2 1 \n"), 18, 17},
+    {FILE_OF("aig 2 1 1 0 0\n2 04\n"), 11, 16},
+    {FILE_OF("aig 2 1 1 0 0\n2 18446744073709551616\n"), 21, 16},
+    {FILE_OF("aig 2 1 1 0 0\n2  4\n"), 10, 16},
+    {FILE_OF("aig 2 0 2 0 0\n2 2\n2 4\n"), 0, 22},
+    {FILE_OF("aig 2 0 2 0 0\n2 4\n2 2\n"), 22, 16},
+    {FILE_OF("aig 2 0 2 0 0\n2 2\n2 2\n"), 22, 20},
+    {FILE_OF("aig 2 0 2 0 0\n2 1\n2 3\n"), 22, 20},
+    {FILE_OF("aig 2 0 2 1 0\n2 3\n6\n6\n"), 22, 16},
+    {FILE_OF("aig 2 0 1 0 1\n2 4\n\1\1"), 22, 16},
+    {FILE_OF("aig 3 1 1 0 0\n2 3\n"), 19, 14},
 };
 enum { ROWS = sizeof table / sizeof table[0] };
 
 /* The same file in lists of the limits is answered the same: 3 is not given there. */
 static void row(const struct row *r) {
     const uint8_t *bytes = (const uint8_t *)r->file;
-    size_t lengths[LISTS] = {8, 8, 8, r->number == 10 && r->place == 28 ? IMDAGLUZ_LIST : 8};
+    size_t lengths[LISTS] = {8, 8, 8, 8, r->number == 10 && r->place == 28 ? IMDAGLUZ_LIST : 8};
     if (r->number != 0) refuses(r->file, bytes, r->length, lengths, r->number, r->place);
     else {
         fill(some);
@@ -131,10 +153,10 @@ static void row(const struct row *r) {
     if (read_file(bytes, r->length, most, LENT) != r->number || answer[0] != r->place) failed(r->file);
 }
 
-/* Two inputs, a latch with a reset, two gates, the first delta with a byte too many, a root of each kind and a second justice literal of the one set. */
-static const char small[] = "aig 5 2 1 1 2 1 1 1 1\n8 1\n10\n9\n3\n2\n6\n11\n7\n\202\0\4\2\5";
-enum { SMALL = sizeof small - 1, HEADER = 22, BEFORE_ROOTS = 35, BEFORE_GATES = 42 };
-static const struct circuit held = {{SMALL, 5, 2, 1, 2, 1, 1, 1, 1, 2, 1}, {8}, {6, 2, 8, 3}, {2}, {10, 9, 3, 7, 6, 11}};
+/* Two inputs, a latch for each reset, two gates, the first delta with a byte too many, a root of each kind and a second justice literal of the one set. */
+static const char small[] = "aig 7 2 3 1 2 1 1 1 1\n12\n8 1\n3 10\n14\n9\n3\n2\n6\n11\n7\n\206\0\4\6\5";
+enum { SMALL = sizeof small - 1, HEADER = 22, BEFORE_ROOTS = 43, BEFORE_GATES = 50 };
+static const struct circuit held = {{SMALL, 7, 2, 3, 2, 1, 1, 1, 1, 2, 1}, {12, 8, 3}, {0, 1, 10}, {6, 2, 8, 3}, {2}, {14, 9, 3, 7, 6, 11}};
 
 static int is_digit(char c) { return c >= '0' && c <= '9'; }
 
@@ -148,7 +170,7 @@ static void cut(size_t n) {
 }
 
 static void short_lists(void) {
-    static const size_t needed[LISTS] = {1, 4, 1, 6};
+    static const size_t needed[LISTS] = {3, 3, 4, 1, 6};
     const uint8_t *bytes = (const uint8_t *)small;
     takes("the small file", bytes, SMALL, some, &held);
     takes("lists that are just long enough", bytes, SMALL, needed, &held);
@@ -157,6 +179,11 @@ static void short_lists(void) {
         memcpy(lengths, needed, sizeof lengths);
         lengths[i]--;
         refuses(names[i], bytes, SMALL, lengths, 3, i == ROOTS ? BEFORE_ROOTS : HEADER);
+        /* none at all, and a word more than is asked: the other lists are just long enough */
+        lengths[i] = 0;
+        refuses(names[i], bytes, SMALL, lengths, 3, i == ROOTS ? BEFORE_ROOTS : HEADER);
+        lengths[i] = needed[i] + 1;
+        takes(names[i], bytes, SMALL, lengths, &held);
     }
     /* ten answer words: nothing at all is written, not even of a file that would be refused */
     for (size_t length = 0; length <= SMALL; length += SMALL) {
@@ -172,7 +199,7 @@ static void short_lists(void) {
 /* imdagluz_expand: 8 words are lent for each list, more where a case says so; a circuit of two inputs, a latch and two gates. */
 static void expands(const char *what, uint32_t inputs, uint32_t latches, size_t gates_length, const size_t lengths[3], uint32_t number) {
     static const uint32_t gates[6] = {6, 2, 3, 9, 4294967295, 0}, codes[2] = {2, 4}, states[1] = {6}, triples[6] = {8, 6, 2, 10, 3, 9};
-    const size_t all[LISTS] = {lengths[0], lengths[1], lengths[2], 0};
+    const size_t all[LISTS] = {lengths[0], lengths[1], lengths[2]};
     fill(all);
     uint32_t got = imdagluz_expand(inputs, latches, gates, gates_length, lists[0], lengths[0], lists[1], lengths[1], lists[2], lengths[2]);
     size_t written = number == 0;

@@ -1,5 +1,5 @@
-/* Tells beforehand, by the walk that the header describes, whether imdagluz_renumber refuses a circuit for 7 or 8 and which literal it names, and which
- * variables have an image, and holds the call to it on random small circuits with every choice of flags.
+/* Tells beforehand, by the walk that the header describes, whether imdagluz_renumber refuses a circuit for 7 or 8 and which literal it names, which
+ * variables have an image, and what the latch's reset becomes, and holds the call to it on random small circuits with every choice of flags.
  * Exit status: 0 when all are as told, with every kind of answer among them, and the line that says so was written, else 1. */
 #include "imdagluz.h"
 #include <inttypes.h>
@@ -7,7 +7,7 @@
 
 enum { CIRCUITS = 300000, TOP = 9, INPUTS = 1, LATCHES = 1, GATES = 5, ROOTS = 2, DEEPEST = 2 * GATES };
 
-struct circuit { uint32_t inputs[INPUTS], states[LATCHES], nexts[LATCHES], gates[3 * GATES], roots[ROOTS]; };
+struct circuit { uint32_t inputs[INPUTS], states[LATCHES], nexts[LATCHES], resets[LATCHES], gates[3 * GATES], roots[ROOTS]; };
 
 struct walk { uint32_t path[DEEPEST], length, refused, literal; int has_image[TOP + 1]; };
 
@@ -33,6 +33,7 @@ static struct circuit some_circuit(void) {
 #define ANY (below(few) ? 2 * variables[below(INPUTS + LATCHES + GATES)] + below(2) : below(2 * TOP + 2))
     c.inputs[0] = DEFINED;
     c.states[0] = DEFINED;
+    c.resets[0] = below(3) ? below(2) : c.states[0];
     for (int g = 0; g < GATES; g++) {
         c.gates[3 * g] = DEFINED;
         c.gates[3 * g + 1] = ANY;
@@ -75,17 +76,19 @@ int main(void) {
     unsigned long ordered = 0, undefined = 0, cycles = 0;
     for (long n = 0; n < CIRCUITS; n++) {
         struct circuit c = some_circuit();
-        uint32_t map[TOP + 1], next_images[LATCHES], root_images[ROOTS], gates_out[2 * GATES], scratch[3 * TOP + 3 + 3 * GATES], answer[3];
+        uint32_t map[TOP + 1], next_images[LATCHES], reset_images[LATCHES], root_images[ROOTS], gates_out[2 * GATES];
+        uint32_t scratch[3 * TOP + 3 + 3 * GATES], answer[3];
         uint32_t flags = (uint32_t)n % 8;
         struct walk w = told(&c, flags);
-        uint32_t got = imdagluz_renumber(TOP, counts, 5, flags, c.inputs, INPUTS, c.states, LATCHES, c.nexts, LATCHES, c.gates, 3 * GATES, c.roots, ROOTS,
-                                         map, TOP + 1, next_images, LATCHES, root_images, ROOTS, gates_out, 2 * GATES, scratch,
-                                         3 * TOP + 3 + 3 * GATES, answer, 3);
+        uint32_t got = imdagluz_renumber(TOP, counts, 5, flags, c.inputs, INPUTS, c.states, LATCHES, c.nexts, LATCHES, c.resets, LATCHES, c.gates,
+                                         3 * GATES, c.roots, ROOTS, map, TOP + 1, next_images, LATCHES, reset_images, LATCHES, root_images, ROOTS,
+                                         gates_out, 2 * GATES, scratch, 3 * TOP + 3 + 3 * GATES, answer, 3);
         int good = got == w.refused && answer[0] == w.literal;
+        good &= reset_images[0] == (got != 0 ? 0 : c.resets[0] < 2 ? c.resets[0] : 2 * (INPUTS + 1));
         for (int v = 0; v <= TOP && got == 0; v++) good &= (map[v] != IMDAGLUZ_NO_IMAGE) == w.has_image[v];
         if (!good) {
-            printf("circuit %ld: told %" PRIu32 " and literal %" PRIu32 ", answered %" PRIu32 " and %" PRIu32 ", or another variable has an image\n", n,
-                   w.refused, w.literal, got, answer[0]);
+            printf("circuit %ld: told %" PRIu32 " and literal %" PRIu32 ", answered %" PRIu32 " and %" PRIu32
+                   ", or another variable has an image, or the reset another one\n", n, w.refused, w.literal, got, answer[0]);
             return 1;
         }
         ordered += got == 0;

@@ -1,19 +1,19 @@
-/* Has imdagluz_write_aig write and refuse circuits as the header says: each refusal alone and each two together, the empty circuit, every pattern of optional
- * counts, deltas about the borders of their lengths, a circuit of the limits, and 20,000 random ones. What is written is compared with an independent
- * spelling and read back with imdagluz_read_aig; with no byte and with a byte too few it is measured. Bytes and words past those lent, and those lent past what
- * is written, are compared too. Exit status: 0 when all are as promised and the line that says so was written, else 1. */
+/* Has imdagluz_write_aig write and refuse circuits as the header says: each refusal alone and each two together, the empty circuit, resets of each kind, every
+ * pattern of optional counts, deltas about the borders of their lengths, a circuit of the limits, and 20,000 random ones. What is written is compared with an
+ * independent spelling and read back with imdagluz_read_aig; with no byte and with a byte too few it is measured. Bytes and words past those lent, and those
+ * lent past what is written, are compared too. Exit status: 0 when all are as promised and the line that says so was written, else 1. */
 #include "imdagluz.h"
 #include <inttypes.h>
 #include <stdio.h>
 #include <string.h>
 
-enum { LIST = IMDAGLUZ_LIST, PAST = 16, HELD = 165, LENT = 3, WORDS = 2, MOST = 76 + 24 * LIST };
+enum { LIST = IMDAGLUZ_LIST, PAST = 16, HELD = 165, LENT = 3, WORDS = 2, MOST = 76 + 32 * LIST };
 
 struct list { uint32_t *words; size_t length; };
-struct circuit { uint32_t inputs; struct list counts, nexts, gates, sizes, roots; };
+struct circuit { uint32_t inputs; struct list counts, nexts, resets, gates, sizes, roots; };
 
-static uint32_t counts[8], nexts[LIST + 1], gates[2 * LIST + 2], sizes[LIST + 1], roots[LIST + 1];
-static uint32_t nexts_back[LIST], gates_back[2 * LIST], sizes_back[LIST], roots_back[LIST];
+static uint32_t counts[8], nexts[LIST + 1], resets[LIST + 1], gates[2 * LIST + 2], sizes[LIST + 1], roots[LIST + 1];
+static uint32_t nexts_back[LIST], resets_back[LIST], gates_back[2 * LIST], sizes_back[LIST], roots_back[LIST];
 static uint8_t out[MOST + 2 * PAST], spelt[MOST];
 static uint64_t answer[LENT + PAST];
 static struct circuit given;
@@ -28,8 +28,9 @@ static void failed(const char *what) {
 static uint32_t call(size_t bytes, size_t words) {
     memset(out, HELD, bytes + PAST);
     for (int i = 0; i < LENT + PAST; i++) answer[i] = HELD;
-    return imdagluz_write_aig(given.inputs, given.counts.words, given.counts.length, given.nexts.words, given.nexts.length, given.gates.words,
-                              given.gates.length, given.sizes.words, given.sizes.length, given.roots.words, given.roots.length, out, bytes, answer, words);
+    return imdagluz_write_aig(given.inputs, given.counts.words, given.counts.length, given.nexts.words, given.nexts.length, given.resets.words,
+                              given.resets.length, given.gates.words, given.gates.length, given.sizes.words, given.sizes.length, given.roots.words,
+                              given.roots.length, out, bytes, answer, words);
 }
 
 /* Whether the bytes from n to the end of the room past those lent are as they were, and the answer words from n on. */
@@ -54,6 +55,12 @@ static void refuses(const char *what, size_t bytes, uint32_t number, uint64_t li
 /* The independent spelling of the circuit. */
 static size_t put_line(size_t at, uint32_t v) { return at + (size_t)sprintf((char *)spelt + at, "%" PRIu32 "\n", v); }
 
+/* A latch's line: what it has for a first value of 0 is nothing. */
+static size_t put_latch(size_t at, uint32_t next, uint32_t reset) {
+    if (reset == 0) return put_line(at, next);
+    return at + (size_t)sprintf((char *)spelt + at, "%" PRIu32 " %" PRIu32 "\n", next, reset);
+}
+
 static size_t put_delta(size_t at, uint32_t d) {
     while (d > 127) spelt[at++] = (uint8_t)(d | 128), d >>= 7;
     spelt[at++] = (uint8_t)d;
@@ -68,7 +75,7 @@ static size_t spell(void) {
     size_t at = (size_t)sprintf((char *)spelt, "aig %" PRIu32 " %" PRIu32 " %zu %" PRIu32 " %" PRIu32, n + g, given.inputs, given.nexts.length, c[0], g);
     for (int i = 0; i < kept; i++) at += (size_t)sprintf((char *)spelt + at, " %" PRIu32, optional[i]);
     spelt[at++] = '\n';
-    for (size_t i = 0; i < given.nexts.length; i++) at = put_line(at, given.nexts.words[i]);
+    for (size_t i = 0; i < given.nexts.length; i++) at = put_latch(at, given.nexts.words[i], given.resets.words[i]);
     size_t fair = (size_t)c[0] + c[1] + c[2], justice = fair + c[3];
     for (size_t i = 0; i < fair; i++) at = put_line(at, given.roots.words[i]);
     for (size_t i = 0; i < given.sizes.length; i++) at = put_line(at, given.sizes.words[i]);
@@ -89,10 +96,10 @@ static int same_list(struct list list, const uint32_t *words, uint64_t length) {
 static int reads_back(size_t length) {
     uint64_t read[11];
     uint32_t back[5];
-    if (imdagluz_read_aig(out, length, nexts_back, LIST, gates_back, 2 * LIST, sizes_back, LIST, roots_back, LIST, read, 11) != 0) return 0;
+    if (imdagluz_read_aig(out, length, nexts_back, LIST, resets_back, LIST, gates_back, 2 * LIST, sizes_back, LIST, roots_back, LIST, read, 11) != 0) return 0;
     for (int i = 0; i < 5; i++) back[i] = (uint32_t)read[5 + i];
-    return read[0] == length && read[2] == given.inputs && same_list(given.nexts, nexts_back, read[3]) && same_list(given.gates, gates_back, 2 * read[4])
-        && same_list(given.counts, back, 5) && same_list(given.sizes, sizes_back, read[10])
+    return read[0] == length && read[2] == given.inputs && same_list(given.nexts, nexts_back, read[3]) && same_list(given.resets, resets_back, read[3])
+        && same_list(given.gates, gates_back, 2 * read[4]) && same_list(given.counts, back, 5) && same_list(given.sizes, sizes_back, read[10])
         && same_list(given.roots, roots_back, read[5] + read[6] + read[7] + read[8] + read[9]);
 }
 
@@ -100,7 +107,8 @@ static int reads_back(size_t length) {
  * its size has, from where on nothing is measured. */
 static void writes(const char *what) {
     size_t length = spell();
-    size_t most = IMDAGLUZ_FILE_BYTES(given.inputs + given.nexts.length + given.gates.length / 2, given.roots.length, given.sizes.length);
+    size_t most = IMDAGLUZ_FILE_BYTES(given.inputs + given.nexts.length + given.gates.length / 2, given.nexts.length, given.roots.length,
+                                      given.sizes.length);
     refuses(what, 0, IMDAGLUZ_SHORT_BUFFER, 0, length);
     refuses(what, length - 1, IMDAGLUZ_SHORT_BUFFER, 0, length);
     if (length > most) failed(what);
@@ -122,17 +130,19 @@ static void nothing(uint32_t inputs) {
     given.inputs = inputs;
     set(&given.counts, counts, none, 5);
     given.nexts = (struct list){nexts, 0};
+    given.resets = (struct list){resets, 0};
     given.gates = (struct list){gates, 0};
     given.sizes = (struct list){sizes, 0};
     given.roots = (struct list){roots, 0};
 }
 
-/* Two inputs, a latch, two gates, a root of each kind and a second justice literal of the one set: 44 bytes. */
+/* Two inputs, a latch that starts at either and one that starts at 1, two gates, a root of each kind and a second justice literal of the one set: 51 bytes. */
 static void small(void) {
-    static const uint32_t c[] = {1, 1, 1, 1, 2}, n[] = {8}, g[] = {6, 2, 8, 3}, z[] = {2}, r[] = {10, 9, 3, 7, 6, 11};
+    static const uint32_t c[] = {1, 1, 1, 1, 2}, n[] = {10, 3}, s[] = {6, 1}, g[] = {6, 2, 8, 3}, z[] = {2}, r[] = {12, 9, 3, 7, 6, 11};
     given.inputs = 2;
     set(&given.counts, counts, c, 5);
-    set(&given.nexts, nexts, n, 1);
+    set(&given.nexts, nexts, n, 2);
+    set(&given.resets, resets, s, 2);
     set(&given.gates, gates, g, 4);
     set(&given.sizes, sizes, z, 1);
     set(&given.roots, roots, r, 6);
@@ -154,11 +164,23 @@ static void counts_wrap(void) { counts[1] = 4294967295, counts[2] = 3; }
 static void sizes_less(void) { sizes[0] = 1; }
 static void sizes_none(void) { given.sizes.length = 0; }
 static void gates_odd(void) { given.gates.length = 3; }
-static void gate_over(void) { gates[1] = 13; }
+static void resets_short(void) { given.resets.length = 1; }
+static void resets_none(void) { given.resets.length = 0; }
+static void resets_long(void) { given.resets.length = 3; }
+static void resets_far_over(void) { given.resets.length = LIST + 1; }
+static void gate_over(void) { gates[1] = 15; }
 static void next_over(void) { nexts[0] = 4294967295; }
-static void root_over(void) { roots[5] = 12; }
-static void gate_itself(void) { gates[0] = 8; }
-static void gate_negated(void) { gates[2] = 11; }
+static void reset_over(void) { resets[0] = 14; }
+static void other_next_over(void) { nexts[1] = 16; }
+static void other_reset_over(void) { resets[1] = 17; }
+static void root_over(void) { roots[5] = 14; }
+static void reset_negated(void) { resets[0] = 7; }
+static void reset_of_other(void) { resets[0] = 8; }
+static void reset_input(void) { resets[0] = 2; }
+static void other_reset_negated(void) { resets[1] = 9; }
+static void other_reset_gate(void) { resets[1] = 10; }
+static void gate_itself(void) { gates[0] = 10; }
+static void gate_negated(void) { gates[2] = 13; }
 static void gate_turned(void) { gates[2] = 3, gates[3] = 8; }
 static const struct wrong { const char *what; void (*apply)(void); uint32_t number, literal; } wrongs[] = {
     {"four counts", counts_four, 2, 0},
@@ -176,14 +198,26 @@ static const struct wrong { const char *what; void (*apply)(void); uint32_t numb
     {"sizes below the count", sizes_less, 2, 0},
     {"no sizes", sizes_none, 2, 0},
     {"an odd list of gates", gates_odd, 2, 0},
-    {"a gate's input over", gate_over, 4, 13},
+    {"a reset too few", resets_short, 2, 0},
+    {"no resets", resets_none, 2, 0},
+    {"a reset too many", resets_long, 2, 0},
+    {"far too many resets", resets_far_over, 2, 0},
+    {"a gate's input over", gate_over, 4, 15},
     {"a next state over", next_over, 4, 4294967295},
-    {"a root over", root_over, 4, 12},
-    {"a gate that is its own input", gate_itself, 23, 8},
-    {"a gate that is its own negated input", gate_negated, 23, 10},
-    {"inputs the wrong way round", gate_turned, 23, 10},
+    {"a reset over", reset_over, 4, 14},
+    {"the second next state over", other_next_over, 4, 16},
+    {"the second reset over", other_reset_over, 4, 17},
+    {"a root over", root_over, 4, 14},
+    {"a latch negated for its reset", reset_negated, 22, 7},
+    {"the other latch for a reset", reset_of_other, 22, 8},
+    {"an input for a reset", reset_input, 22, 2},
+    {"the second latch negated for its reset", other_reset_negated, 22, 9},
+    {"a gate for a reset", other_reset_gate, 22, 10},
+    {"a gate that is its own input", gate_itself, 23, 10},
+    {"a gate that is its own negated input", gate_negated, 23, 12},
+    {"inputs the wrong way round", gate_turned, 23, 12},
 };
-enum { WRONGS = sizeof wrongs / sizeof wrongs[0], NEEDED = 44 };
+enum { WRONGS = sizeof wrongs / sizeof wrongs[0], NEEDED = 51 };
 
 /* Each alone and each two together, with bytes enough and a byte too few: whichever is tested first is told. */
 static void refusals(void) {
@@ -209,6 +243,15 @@ static void refusals(void) {
     }
     for (size_t bytes = 0; bytes < NEEDED; bytes++) refuses("bytes too few", bytes, 3, 0, NEEDED);
     writes("the small circuit");
+}
+
+/* Every choice of two resets. */
+static void first_values(void) {
+    for (uint32_t choice = 0; choice < 9; choice++) {
+        small();
+        resets[0] = choice % 3 < 2 ? choice % 3 : 6, resets[1] = choice / 3 < 2 ? choice / 3 : 8;
+        writes("resets");
+    }
 }
 
 /* Every pattern of optional counts: bad states, constraints, justice sets, fairness. */
@@ -242,11 +285,11 @@ static void deltas(void) {
     }
 }
 
-/* Every number as large as it may be: latches, outputs and empty justice sets; then gates, roots and inputs. */
+/* Every number as large as it may be: latches that start at either, outputs and empty justice sets; then gates, roots and inputs. */
 static void limits(void) {
     nothing(0);
-    given.nexts.length = given.roots.length = given.sizes.length = counts[0] = LIST;
-    for (size_t i = 0; i < LIST; i++) nexts[i] = roots[i] = 2 * LIST + 1, sizes[i] = 0;
+    given.nexts.length = given.resets.length = given.roots.length = given.sizes.length = counts[0] = LIST;
+    for (size_t i = 0; i < LIST; i++) nexts[i] = roots[i] = 2 * LIST + 1, resets[i] = (uint32_t)(2 * (i + 1)), sizes[i] = 0;
     writes("a circuit of the limits");
     nothing(LIST - 1000);
     given.gates.length = 2000;
@@ -266,9 +309,9 @@ static void random_circuits(void) {
     for (int n = 0; n < 20000; n++) {
         static const uint32_t many[] = {1, 3, 70, 300, 9000};
         nothing(below(many[below(5)]));
-        given.nexts.length = below(4), given.gates.length = 2 * below(9), given.sizes.length = below(4);
+        given.nexts.length = given.resets.length = below(4), given.gates.length = 2 * below(9), given.sizes.length = below(4);
         uint32_t sources = given.inputs + (uint32_t)given.nexts.length, all = 2 * (sources + (uint32_t)given.gates.length / 2) + 2;
-        for (size_t i = 0; i < given.nexts.length; i++) nexts[i] = below(all);
+        for (uint32_t i = 0; i < given.nexts.length; i++) nexts[i] = below(all), resets[i] = below(3) ? below(2) : 2 * (given.inputs + 1 + i);
         for (uint32_t k = 0; k < given.gates.length / 2; k++) gates[2 * k] = below(2 * (sources + 1 + k)), gates[2 * k + 1] = below(gates[2 * k] + 1);
         for (int i = 0; i < 4; i++) counts[i] = below(3);
         for (size_t i = 0; i < given.sizes.length; i++) counts[4] += sizes[i] = below(3);
@@ -280,6 +323,7 @@ static void random_circuits(void) {
 
 int main(void) {
     refusals();
+    first_values();
     nothing(0);
     writes("the empty circuit");
     patterns();

@@ -2,13 +2,13 @@
  *
  *   read port|crate KIND SIZE [TIMES]    TIMES: how often (1)
  *
- * KIND `mixed`: SIZE gates over a twenty-fifth as many inputs and a hundred and twenty-fifth as many latches, every second latch with a reset; each gate's
- * inputs are drawn from all that stands before it, half of them from the last hundred; a twentieth as many outputs, a hundredth as many bad states,
- * and as many constraints, justice sets of two literals and fairness constraints. `gates`: SIZE gates over two inputs, whose inputs are among the last
- * thirty variables, so that every delta is one byte. `far`: SIZE gates over two inputs, whose inputs are drawn from all that stands before. `lines`: SIZE
- * outputs of any literal over half as many inputs. `latches`: SIZE latches, every second one with a reset.
- * Prints the bytes of the file and the sum of all that was read, on which both must agree, and with a clock the milliseconds of the fastest run. Only by_port and by_crate are
- * to be counted by an instruction counter. */
+ * KIND `mixed`: SIZE gates over a twenty-fifth as many inputs and a hundred and twenty-fifth as many latches, every second latch with a reset, 1 or its own
+ * literal by turns; each gate's inputs are drawn from all that stands before it, half of them from the last hundred; a twentieth as many outputs, a hundredth as
+ * many bad states, and as many constraints, justice sets of two literals and fairness constraints. `gates`: SIZE gates over two inputs, whose inputs are among
+ * the last thirty variables, so that every delta is one byte. `far`: SIZE gates over two inputs, whose inputs are drawn from all that stands before. `lines`: SIZE
+ * outputs of any literal over half as many inputs. `latches`: SIZE latches, every second one with a reset as in mixed.
+ * Prints the bytes of the file and the sum of all that was read, on which both must agree, and with a clock the milliseconds of the fastest run. Only by_port and
+ * by_crate are to be counted by an instruction counter. */
 #include "imdagluz.h"
 #include <stdio.h>
 #include <stdlib.h>
@@ -25,7 +25,7 @@ enum { LIMIT = 1048575 };
 
 static uint8_t *bytes;
 static size_t length;
-static uint32_t nexts[LIMIT], gates[2 * LIMIT], sizes[LIMIT], roots[LIMIT];
+static uint32_t nexts[LIMIT], resets[LIMIT], gates[2 * LIMIT], sizes[LIMIT], roots[LIMIT];
 static uint64_t answer[11], state = 1;
 
 static uint64_t random64(void) {
@@ -37,6 +37,12 @@ static uint64_t random64(void) {
 }
 
 static void line(uint64_t number, const char *rest) { length += (size_t)sprintf((char *)bytes + length, "%llu%s", (unsigned long long)number, rest); }
+
+/* A latch's line: every second one has a reset, 1 or the latch's own literal. */
+static void latch(uint32_t k, uint32_t next, uint32_t own) {
+    if (k % 4 == 3) length += (size_t)sprintf((char *)bytes + length, "%u %u\n", next, own);
+    else line(next, k % 4 == 1 ? " 1\n" : "\n");
+}
 
 static void delta(uint32_t value) {
     for (; value > 127; value >>= 7) bytes[length++] = (uint8_t)(value | 128);
@@ -65,7 +71,7 @@ static int make(const char *kind, uint32_t size) {
     uint32_t top = inputs + latches + count;
     if (top > LIMIT || !(bytes = malloc(64 + (size_t)size * 32))) return 0;
     length = (size_t)sprintf((char *)bytes, "aig %u %u %u %u %u %u %u %u %u\n", top, inputs, latches, outputs, count, others, others, others, others);
-    for (uint32_t k = 0; k < latches; k++) line(draw(top, 0), k % 2 ? " 1\n" : "\n");
+    for (uint32_t k = 0; k < latches; k++) latch(k, draw(top, 0), 2 * (inputs + 1 + k));
     for (uint32_t k = 0; k < outputs + 2 * others; k++) line(draw(top, 0), "\n");
     for (uint32_t k = 0; k < others; k++) line(2, "\n");
     for (uint32_t k = 0; k < 3 * others; k++) line(draw(top, 0), "\n");
@@ -83,7 +89,7 @@ static uint32_t refused;
 static void *read;
 
 __attribute__((noinline)) void by_port(void) {
-    refused = imdagluz_read_aig(bytes, length, nexts, LIMIT, gates, 2 * LIMIT, sizes, LIMIT, roots, LIMIT, answer, 11);
+    refused = imdagluz_read_aig(bytes, length, nexts, LIMIT, resets, LIMIT, gates, 2 * LIMIT, sizes, LIMIT, roots, LIMIT, answer, 11);
 }
 
 __attribute__((noinline)) void by_crate(void) { read = crate_read(bytes, length); }
@@ -93,7 +99,7 @@ static uint64_t total(int port) {
     if (!port) return read ? crate_sum(read) : UINT64_MAX;
     if (refused) return UINT64_MAX;
     uint64_t count = answer[5] + answer[6] + answer[7] + answer[8] + answer[9];
-    return sum(nexts, answer[3]) + sum(gates, 2 * answer[4]) + sum(sizes, answer[10]) + sum(roots, count);
+    return sum(nexts, answer[3]) + sum(resets, answer[3]) + sum(gates, 2 * answer[4]) + sum(sizes, answer[10]) + sum(roots, count);
 }
 
 static double now(void) {

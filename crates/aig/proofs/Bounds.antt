@@ -18,29 +18,30 @@ in-outputs c [] h = absurd h
 in-outputs c (g ∷ gs) (inl e) = inl e
 in-outputs c (g ∷ gs) (inr h) = inr (inr (inr (in-outputs c gs h)))
 
-in-states : (c : ℕ) (ss ns : List ℕ) → length ss ≡ length ns → In c ss → In c (latchCodes ss ns)
-in-states c [] ns e h = absurd h
-in-states c (s ∷ ss) [] e h = absurd (omega arith)
-in-states c (s ∷ ss) (n ∷ ns) e (inl k) = inl k
-in-states c (s ∷ ss) (n ∷ ns) e (inr k) = inr (inr (in-states c ss ns (omega arith) k))
+in-states : (c : ℕ) (ss ns rs : List ℕ) → length ss ≡ length ns → length ss ≡ length rs → In c ss → In c (latchCodes ss ns rs)
+in-states c [] ns rs e f h = absurd h
+in-states c (s ∷ ss) [] rs e f h = absurd (omega arith)
+in-states c (s ∷ ss) (n ∷ ns) [] e f h = absurd (omega arith)
+in-states c (s ∷ ss) (n ∷ ns) (r ∷ rs) e f (inl k) = inl k
+in-states c (s ∷ ss) (n ∷ ns) (r ∷ rs) e f (inr k) = inr (inr (inr (in-states c ss ns rs (omega arith) (omega arith) k)))
 
-in-nexts : (c : ℕ) (ss ns : List ℕ) → length ss ≡ length ns → In c ns → In c (latchCodes ss ns)
-in-nexts c [] [] e h = absurd h
-in-nexts c [] (n ∷ ns) e h = absurd (omega arith)
-in-nexts c (s ∷ ss) [] e h = absurd h
-in-nexts c (s ∷ ss) (n ∷ ns) e (inl k) = inr (inl k)
-in-nexts c (s ∷ ss) (n ∷ ns) e (inr k) = inr (inr (in-nexts c ss ns (omega arith) k))
+in-nexts : (c : ℕ) (ss ns rs : List ℕ) → length ss ≡ length ns → length ss ≡ length rs → In c ns → In c (latchCodes ss ns rs)
+in-nexts c ss [] rs e f h = absurd h
+in-nexts c [] (n ∷ ns) rs e f h = absurd (omega arith)
+in-nexts c (s ∷ ss) (n ∷ ns) [] e f h = absurd (omega arith)
+in-nexts c (s ∷ ss) (n ∷ ns) (r ∷ rs) e f (inl k) = inr (inl k)
+in-nexts c (s ∷ ss) (n ∷ ns) (r ∷ rs) e f (inr k) = inr (inr (inr (in-nexts c ss ns rs (omega arith) (omega arith) k)))
 
 module _ {l : Lent} (b : InBounds (circuitOf l)) (a : Agrees l) (c : ℕ) where
   abbrev C : Circuit
   C = circuitOf l
 
-  low : In c (l .inputs ++ (gateCodes (C .gates) ++ (latchCodes (l .states) (l .nexts) ++ l .roots))) → c ≤ 2 * C .top + 1
+  low : In c (l .inputs ++ (gateCodes (C .gates) ++ (latchCodes (l .states) (l .nexts) (l .resets) ++ l .roots))) → c ≤ 2 * C .top + 1
   unfolding codes
   low h = b c h
 
-  latch-low : In c (latchCodes (l .states) (l .nexts)) → c ≤ 2 * C .top + 1
-  latch-low h = low (In-right c (l .inputs) _ (In-right c (gateCodes (C .gates)) _ (In-left c (latchCodes (l .states) (l .nexts)) _ h)))
+  latch-low : In c (latchCodes (l .states) (l .nexts) (l .resets)) → c ≤ 2 * C .top + 1
+  latch-low h = low (In-right c (l .inputs) _ (In-right c (gateCodes (C .gates)) _ (In-left c (latchCodes (l .states) (l .nexts) (l .resets)) _ h)))
 
   gate-low : In c (gateCodes (C .gates)) → c ≤ 2 * C .top + 1
   gate-low h = low (In-right c (l .inputs) _ (In-left c (gateCodes (C .gates)) _ h))
@@ -55,10 +56,10 @@ module _ {l : Lent} (b : InBounds (circuitOf l)) (a : Agrees l) (c : ℕ) where
   output-low h = gate-low (in-outputs c (C .gates) h)
 
   pub state-low : In c (l .states) → c ≤ 2 * C .top + 1
-  state-low h = latch-low (in-states c (l .states) (l .nexts) (a .latches) h)
+  state-low h = latch-low (in-states c (l .states) (l .nexts) (l .resets) (a .latches) (a .resets) h)
 
   pub next-low : In c (l .nexts) → c ≤ 2 * C .top + 1
-  next-low h = latch-low (in-nexts c (l .states) (l .nexts) (a .latches) h)
+  next-low h = latch-low (in-nexts c (l .states) (l .nexts) (l .resets) (a .latches) (a .resets) h)
 
   pub root-low : In c (l .roots) → c ≤ 2 * C .top + 1
-  root-low h = low (In-right c (l .inputs) _ (In-right c (gateCodes (C .gates)) _ (In-right c (latchCodes (l .states) (l .nexts)) _ h)))
+  root-low h = low (In-right c (l .inputs) _ (In-right c (gateCodes (C .gates)) _ (In-right c (latchCodes (l .states) (l .nexts) (l .resets)) _ h)))

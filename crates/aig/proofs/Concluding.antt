@@ -13,8 +13,8 @@ use Rattle.circuit.specs.declared.Refusal.{Refusal}
 use Rattle.circuit.specs.Graph.{In}
 use Rattle.circuit.specs.Map.{noImage, entryImage, imageIn, codeOf}
 use Rattle.circuit.specs.Walk.{Work, Out, reached, stopped}
-use Rattle.circuit.specs.Circuit.{Circuit, renumber}
-use Rattle.circuit.specs.Ordered.{imagesIn, orderedOf}
+use Rattle.circuit.specs.Circuit.{Circuit, walked, numbered}
+use Rattle.circuit.specs.Ordered.{imagesIn, carriedFrom, firstLatch, orderedOf}
 use Rattle.circuit.specs.Outcome.{Lent, Outcome, lentOf, circuitOf, mapWords, scratchWords, zeros, onto, pairWords, summaryOf, after, outcome}
 use Rattle.circuit.specs.Claims.{Within, Agrees, Roomy}
 use Rattle.circuit.specs.Tested.{Tested}
@@ -23,6 +23,8 @@ use Rattle.circuit.proofs.Renumber.{Done, Answered}
 use Rattle.circuit.proofs.Outcome as O
 use Rattle.circuit.proofs.Outcome.{onto-long}
 use Rattle.lent.proofs.Entries.{images-length}
+use Rattle.images.specs.Begin.{carriedOnto}
+use Rattle.images.proofs.Few.{carry-few}
 use Rattle.ending.specs.declared.Walked.{Walked}
 use Rattle.ending.specs.Ending.{madeWith, ended}
 use Rattle.ending.proofs.Ended.{outcome-eq}
@@ -64,20 +66,29 @@ module _ (l : Lent) (p : Tested l) where
   pub walk-in : WalkIn (bareOf l) (l .map) (l .gatesOut) (l .scratch)
   walk-in =
       record {
-        within = sizes;
-        agrees = record { roots = agr .roots; latches = agr .latches; words = agr .words };
+        resets = l .resets;
+        within = record { top = sizes .top; inputs = sizes .inputs; latches = sizes .latches; gates = sizes .gates; roots = sizes .roots };
+        agrees = record { roots = agr .roots; latches = agr .latches; resets = agr .resets; words = agr .words };
         bounds = O.bounds l p;
-        four = p .four;
         mapLong = room .map;
         outLong = room .gates;
         scratchLong = room .scratch;
       }
 
+  -- the circuit that the walks saw
+  abbrev seen : Circuit
+  seen = circuitOf (bareOf l)
+
+  seen-same : numbered K ≡ numbered seen
+  unfolding numbered walked
+  seen-same = refl
+
   -- the lists m, g and s that the walks leave
-  module _ (r : Walked) (m g s : List ℕ) (k : EndsIn K (l .map) (l .gatesOut) (l .scratch) (renumber K) r m g s) (em : length m ≡ length (l .map))
+  module _ (r : Walked) (m g s : List ℕ) (k : EndsIn seen (l .map) (l .gatesOut) (l .scratch) (numbered seen) r m g s) (em : length m ≡ length (l .map))
       (eg : length g ≡ length (l .gatesOut)) (es : length s ≡ length (l .scratch)) where
     abbrev left : Lent
-    left = lentOf (l .circuit) (l .inputs) (l .states) (l .nexts) (l .gates) (l .roots) m (l .nextImages) (l .rootImages) g s
+    left =
+        lentOf (l .circuit) (l .inputs) (l .states) (l .nexts) (l .resets) (l .gates) (l .roots) m (l .nextImages) (l .resetImages) (l .rootImages) g s
 
     -- zeros, or other words, onto as much of a list as is named
     fill-is : (v n : ℕ) (x y : List ℕ) → n ≤ length x → length x ≡ length y → drop n x ≡ drop n y → onto (replicate n v) x ≡ onto (replicate n v) y
@@ -94,7 +105,12 @@ module _ (l : Lent) (p : Tested l) where
     images-are w cs y e low =
         ap (λ (is : List ℕ). onto is y) (images-front (mapWords K) m cs (λ c i. omega (arith, low c i)) ∙ ap (λ (x : List ℕ). imagesIn x cs) e)
 
-    succeeds : (w : Work) → renumber K ≡ reached w → WalkEnds K (reached w) r (take (mapWords K) m) (take (2 * length (K .gates)) g)
+    -- the resets carried over
+    resets-are : carriedOnto (length (l .inputs)) (l .resets) (l .resetImages)
+        ≡ onto (carriedFrom (firstLatch (length (l .inputs))) (l .resets)) (l .resetImages)
+    resets-are = sym (carry-few (length (l .inputs)) (l .resets) (l .resetImages) (sizes .inputs) (omega (arith, sizes .latches, agr .resets)))
+
+    succeeds : (w : Work) → numbered K ≡ reached w → WalkEnds K (reached w) r (take (mapWords K) m) (take (2 * length (K .gates)) g)
         → ended r left ≡ after l (reached w)
     unfolding ended after orderedOf
     succeeds w e (er, ei, eo) =
@@ -112,32 +128,34 @@ module _ (l : Lent) (p : Tested l) where
         rw er
         (outcome-eq _ (joins (mapWords K) m (l .map) (w .images) ei (k .pastMap) (d .inv .size) (room .map))
         (images-are w (l .nexts) (l .nextImages) ei (λ c. next-low (O.bounds l p) agr c))
-        (images-are w (l .roots) (l .rootImages) ei (λ c. root-low (O.bounds l p) agr c))
+        resets-are (images-are w (l .roots) (l .rootImages) ei (λ c. root-low (O.bounds l p) agr c))
         (joins (2 * length (K .gates)) g (l .gatesOut) _ eo (k .pastOut) long (room .gates)) scratch-is
         ∙ ap (λ (a : Answer). record {
           answer = a;
           map = onto (w .images) (l .map);
           nextImages = onto (imagesIn (w .images) (l .nexts))
               (l .nextImages);
+          resetImages = onto (carriedFrom (firstLatch (length (l .inputs))) (l .resets)) (l .resetImages);
           rootImages = onto (imagesIn (w .images) (l .roots)) (l .rootImages);
           gatesOut = onto (pairWords (w .made) ++ zeros rest)
               (l .gatesOut);
           scratch = onto (zeros (scratchWords K)) (l .scratch);
         }) answer-is)
 
-    refuses : (why : Refusal) → renumber K ≡ stopped why → WalkEnds K (stopped why) r (take (mapWords K) m) (take (2 * length (K .gates)) g)
+    refuses : (why : Refusal) → numbered K ≡ stopped why → WalkEnds K (stopped why) r (take (mapWords K) m) (take (2 * length (K .gates)) g)
         → ended r left ≡ after l (stopped why)
     unfolding ended after
     refuses why e er =
         rw (er, late l p why (subst (Answered K) e (answer l p)))
         (outcome-eq (Refused why) (fill-is noImage (mapWords K) m (l .map) (omega (arith, room .map, em)) em (k .pastMap))
         (fill-is 0 (length (l .states)) (l .nextImages) (l .nextImages) (room .nexts) refl refl)
+        (fill-is 0 (length (l .states)) (l .resetImages) (l .resetImages) (room .resets) refl refl)
         (fill-is 0 (length (l .roots)) (l .rootImages) (l .rootImages) (room .roots) refl refl)
         (fill-is 0 (2 * length (K .gates)) g (l .gatesOut) (omega (arith, room .gates, eg)) eg (k .pastOut)) scratch-is)
 
     pub ends : ended r left ≡ outcome l
-    ends = go (renumber K) refl (k .ends) ∙ concludes l p
+    ends = go (numbered seen) seen-same (k .ends) ∙ concludes l p
       where
-        go : (o : Out) → renumber K ≡ o → WalkEnds K o r (take (mapWords K) m) (take (2 * length (K .gates)) g) → ended r left ≡ after l (renumber K)
+        go : (o : Out) → numbered K ≡ o → WalkEnds seen o r (take (mapWords K) m) (take (2 * length (K .gates)) g) → ended r left ≡ after l (numbered K)
         go (reached w) e q = succeeds w e q ∙ ap (after l) (sym e)
         go (stopped why) e q = refuses why e q ∙ ap (after l) (sym e)

@@ -12,6 +12,7 @@ use Rattle.circuit.specs.Graph.{In}
 use Rattle.circuit.specs.Walk.{Work, Out, stackRoom, walkAll}
 use Rattle.circuit.specs.Circuit.{Circuit, net, gateOutputs, start, walked}
 use Rattle.circuit.specs.Outcome.{Lent, circuitOf, mapWords, pairWords, zeros}
+use Rattle.circuit.specs.Resets.{withResets}
 use Rattle.circuit.proofs.Lists.{In-cases, In-getD}
 use Rattle.circuit.proofs.Start.{start-inv}
 use Rattle.circuit.proofs.Words.{gates-length}
@@ -41,8 +42,17 @@ module _ {l : Lent} {map out scratch : List ℕ} (k : WalkReady l map out scratc
   abbrev sources : List ℕ
   sources = l .inputs ++ l .states
 
-  limits : Limits C
-  limits = record { few = omega (arith, length-append (l .inputs) (l .states), k .within); latches = k .agrees .latches }
+  -- the circuit with the resets that passed
+  abbrev whole : Circuit
+  whole = circuitOf (withResets l (k .resets))
+
+  limits : Limits whole
+  limits =
+      record {
+        few = omega (arith, length-append (l .inputs) (l .states), k .within);
+        latches = k .agrees .latches;
+        resets = k .agrees .resets;
+      }
 
   isTop : v - 1 ≡ C .top
   isTop = omega arith
@@ -51,7 +61,7 @@ module _ {l : Lent} {map out scratch : List ℕ} (k : WalkReady l map out scratc
   first = start (C .top) sources
 
   fits : Sized (net C) (C .top)
-  fits = sized C limits (k .bounds)
+  fits = sized whole limits (k .bounds)
 
   ground : Ground shape sources (l .gates)
   ground =
@@ -80,7 +90,7 @@ module _ {l : Lent} {map out scratch : List ℕ} (k : WalkReady l map out scratc
       record {
         vars = omega (arith, k .within);
         gates = omega (arith, k .within, gates-length (l .gates));
-        few = omega (arith, counting C limits (k .bounds) (k .once), length-append (l .inputs) (l .states), gates-length (l .gates));
+        few = omega (arith, counting whole limits (k .bounds) (k .once), length-append (l .inputs) (l .states), gates-length (l .gates));
         long = omega (arith, k .room, gates-length (l .gates));
       }
 

@@ -14,7 +14,7 @@ use Rattle.circuit.specs.declared.Refusal.the-variants as R
 use Rattle.circuit.specs.Graph.{Distinct, outVar, DefinedOnce}
 use Rattle.circuit.specs.Map.{noImage, store}
 use Rattle.circuit.specs.Walk.{Out, stopped, stackRoom}
-use Rattle.circuit.specs.Circuit.{Circuit, graph, net, gateOutputs, firstAgain, definitions, storeFrom, start, walkWith, orRefuse, renumber}
+use Rattle.circuit.specs.Circuit.{Circuit, graph, net, gateOutputs, firstAgain, definitions, storeFrom, start, walkWith, orRefuse, numbered}
 use Rattle.circuit.specs.Outcome.{Lent, circuitOf, mapWords, scratchWords, zeros, onto}
 use Rattle.circuit.proofs.Checks.{Apart, Again, once, againTest, map-append, map-outputs, parts-join}
 use Rattle.circuit.proofs.Words.{gates-length}
@@ -69,9 +69,9 @@ module _ {l : Lent} {words out scratch : List ℕ} (x : WalkIn l words out scrat
   abbrev six : Option ℕ
   six = firstAgain (0 ∷ map var (definitions D)) (l .states)
 
-  after-four : renumber D ≡ orRefuse five R.Again (orRefuse six R.StateAgain lasts)
-  unfolding renumber
-  after-four = rw (x .four)
+  in-order : numbered D ≡ orRefuse five R.Again (orRefuse six R.StateAgain lasts)
+  unfolding numbered
+  in-order = refl
 
   -- the codes that the table is asked
   input-codes : Codes n (l .inputs)
@@ -106,8 +106,8 @@ module _ {l : Lent} {words out scratch : List ℕ} (x : WalkIn l words out scrat
   says : J .said ≡ failAt five R.Again (failAt six R.StateAgain Passed)
   says = defines (l .inputs) (l .states) (D .gates) n (omega arith) (x .within .gates) input-codes state-codes output-codes (J .words) (J .said) refl
 
-  refuses : (why : Refusal) → J .said ≡ Failed why → renumber D ≡ stopped why
-  refuses why p = after-four ∙ go five six (sym p ∙ says)
+  refuses : (why : Refusal) → J .said ≡ Failed why → numbered D ≡ stopped why
+  refuses why p = in-order ∙ go five six (sym p ∙ says)
     where
       go : (a b : Option ℕ) → Failed why ≡ failAt a R.Again (failAt b R.StateAgain Passed) → orRefuse a R.Again (orRefuse b R.StateAgain lasts) ≡ stopped why
       go (some d) b k = let z : R.Again (literal d) ≡ why = cc in ap stopped z
@@ -122,8 +122,8 @@ module _ {l : Lent} {words out scratch : List ℕ} (x : WalkIn l words out scrat
       go none p₁ (some d) p₂ k = absurd (let z : _≡_ {A = ℕ} 0 1 = cc in omega arith)
       go none p₁ none p₂ k = (p₁, p₂)
 
-  by-walks : J .said ≡ Passed → renumber D ≡ lasts
-  by-walks p = after-four ∙ rw (both p .0, both p .1)
+  by-walks : J .said ≡ Passed → numbered D ≡ lasts
+  by-walks p = in-order ∙ rw (both p .0, both p .1)
 
   tabled : J .said ≡ Passed → Tabled (D .gates) (J .words)
   tabled p =
@@ -196,7 +196,7 @@ module _ {l : Lent} {words out scratch : List ℕ} (x : WalkIn l words out scrat
         cut s (J .words ++ zeros (k - n)) (drop k scratch) k (scratch-is ∙ sym (append-assoc (J .words) (zeros (k - n)) (drop k scratch)))
         (omega (arith, table-long, length-append (J .words) (zeros (k - n)), length-replicate {A = ℕ} (k - n) 0))
 
-    pub refused-ends : (why : Refusal) → r ≡ Failed why → EndsIn D words out scratch (renumber D) (Stopped why) m o s
+    pub refused-ends : (why : Refusal) → r ≡ Failed why → EndsIn D words out scratch (numbered D) (Stopped why) m o s
     refused-ends why p =
         record {
           ends = subst⁻¹ (λ (y : Out). WalkEnds D y (Stopped why) (take n m) (take (2 * G) o)) (refuses why (sym said-is ∙ p)) refl;
@@ -226,6 +226,7 @@ module _ {l : Lent} {words out scratch : List ℕ} (x : WalkIn l words out scrat
       pub ready : WalkReady l (take v m) (take (2 * c) o) (take (3 * v + 3 * c) s)
       ready =
           record {
+            resets = x .resets;
             within = x .within;
             agrees = x .agrees;
             bounds = x .bounds;
@@ -259,7 +260,7 @@ module _ {l : Lent} {words out scratch : List ℕ} (x : WalkIn l words out scrat
       -- after the walks in the fronts, whose words are m′, o′ and s′ then
       pub ends-in : length o ≡ length out → (y : Walked) (m′ o′ s′ : List ℕ) → WalkEnds D lasts y m′ o′ → length m′ ≡ length (take v m)
           → length o′ ≡ length (take (2 * c) o) → length s′ ≡ length (take (3 * v + 3 * c) s)
-          → EndsIn D words out scratch (renumber D) y (m′ ++ drop v m) (o′ ++ drop (2 * c) o) (s′ ++ drop (3 * v + 3 * c) s)
+          → EndsIn D words out scratch (numbered D) y (m′ ++ drop v m) (o′ ++ drop (2 * c) o) (s′ ++ drop (3 * v + 3 * c) s)
       ends-in eo y m′ o′ s′ w fm fo fs =
           let pm = cut (m′ ++ drop v m) m′ (drop v m) n refl (fm ∙ length-take-le v m mapFront ∙ isWords) in
           let po = cut (o′ ++ drop (2 * c) o) o′ (drop (2 * c) o) (2 * G) refl (fo ∙ length-take-le (2 * c) o (outFront eo) ∙ pairs) in

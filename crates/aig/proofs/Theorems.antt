@@ -18,17 +18,19 @@ pub one-lookup : Determines 1 lookup-kinds.ps lookup-kinds.r lookup-promise.Lear
 one-lookup κs a x y e f p q = p ∙ sym q
 
 pub one-renumber :
-    DeterminesCells 10 renumber-kinds.ps renumber-kinds.r renumber-promise.Learnt {A = List ℕ × List ℕ × List ℕ × List ℕ × List ℕ}
+    DeterminesCells 12 renumber-kinds.ps renumber-kinds.r renumber-promise.Learnt {A = List ℕ × List ℕ × List ℕ × List ℕ × List ℕ × List ℕ}
     (λ κs e. (
-      now (e .1 .1 .1 .1 .1 .1 .0),
       now (e .1 .1 .1 .1 .1 .1 .1 .0),
       now (e .1 .1 .1 .1 .1 .1 .1 .1 .0),
-      now
-          (e .1 .1 .1 .1 .1 .1 .1 .1 .1 .0),
+      now (e .1 .1 .1 .1 .1 .1 .1 .1 .1 .0),
       now (e .1 .1 .1 .1 .1 .1 .1 .1 .1 .1 .0),
+      now (e .1 .1 .1 .1 .1 .1 .1 .1 .1 .1 .1 .0),
+      now (e .1 .1 .1 .1 .1 .1 .1 .1 .1 .1 .1 .1 .0),
     ))
-one-renumber κs a x y e f p q =
-    (ap (λ (o : Outcome). o .answer) (p ∙ sym q), ap (λ (o : Outcome). (o .map, o .nextImages, o .rootImages, o .gatesOut, o .scratch)) (p ∙ sym q))
+one-renumber κs a x y e f p q = (
+  ap (λ (o : Outcome). o .answer) (p ∙ sym q),
+  ap (λ (o : Outcome). (o .map, o .nextImages, o .resetImages, o .rootImages, o .gatesOut, o .scratch)) (p ∙ sym q),
+)
 
 -- whatever `renumber` leaves of what it is lent is all that the customer demands: circuit's specs/Demands.antt says what that is. Where it says that
 -- a literal has

@@ -1,34 +1,35 @@
 -- What the walks are given and what they leave. Assumes nothing.
 use Prim.Native.Nat.{ℕ, _+_, _-_, _*_, _≤_}
 use mathlib.Core.Path.{_≡_}
-use mathlib.Core.Option.{none}
 use mathlib.Core.List.{List, _++_}
 use lib.ListN.{length, take, drop}
 use Rattle.circuit.specs.Graph.{DefinedOnce}
 use Rattle.circuit.specs.Walk.{Out, reached, stopped}
-use Rattle.circuit.specs.Circuit.{Circuit, graph, codes, firstOver, start}
+use Rattle.circuit.specs.Circuit.{Circuit, graph, start}
 use Rattle.circuit.specs.Outcome.{Lent, circuitOf, pairWords, zeros, mapWords, scratchWords}
 use Rattle.circuit.specs.Claims.{Within, Agrees}
 use Rattle.circuit.specs.Tested.{InBounds}
+use Rattle.circuit.specs.Resets.{withResets}
 use Rattle.aig.specs.Table.{Tabled}
 use Rattle.ending.specs.declared.Walked.{Walked}
 use Rattle.ending.specs.declared.Walked.the-variants.{Reached, Stopped}
 
--- the circuit has passed checks 1, 2 and 4, and the lists are as long as they must be, or longer
+-- the circuit has passed checks 1, 2 and 4 with some resets, which the walks do not see, and the lists are as long as they must be, or longer
 pub record WalkIn (l : Lent) (map out scratch : List ℕ) : Type 0 where
+  pub resets : List ℕ
   pub within : Within (circuitOf l)
-  pub agrees : Agrees l
-  pub bounds : InBounds (circuitOf l)
-  pub four : firstOver (2 * circuitOf l .top + 1) (codes (circuitOf l)) ≡ none
+  pub agrees : Agrees (withResets l resets)
+  pub bounds : InBounds (circuitOf (withResets l resets))
   pub mapLong : mapWords (circuitOf l) ≤ length map
   pub outLong : 2 * length (circuitOf l .gates) ≤ length out
   pub scratchLong : scratchWords (circuitOf l) ≤ length scratch
 
--- the circuit has passed checks 1 to 6, and the lists are as the walks of its literals find them
+-- the circuit has passed checks 1 to 6 with some resets, and the lists are as the walks of its literals find them
 pub record WalkReady (l : Lent) (map out scratch : List ℕ) : Type 0 where
+  pub resets : List ℕ
   pub within : Within (circuitOf l)
-  pub agrees : Agrees l
-  pub bounds : InBounds (circuitOf l)
+  pub agrees : Agrees (withResets l resets)
+  pub bounds : InBounds (circuitOf (withResets l resets))
   pub once : DefinedOnce (graph (circuitOf l))
   pub mapped : map ≡ start (circuitOf l .top) (graph (circuitOf l) .sources) .images
   pub outs : out ≡ zeros (2 * length (circuitOf l .gates))

@@ -33,17 +33,20 @@ pub fn lookup(map: &[u32], top: Var, lit: Lit) -> Image
 }
 
 // Renumbers a circuit: answers the number of gates made and the new largest variable, or why not. Roots stand in walk order: outputs, bad states,
-// constraints, fairness, justice. Gates come flat, output, first and second input, and go out as pairs, larger input first. Refusals 1 to 4 write
-// nothing; the others clear the lent lists as far as they are named.
+// constraints, fairness, justice. A latch's reset is 0, 1 or, unset, its own literal, which comes out as
+// the new one. Gates come flat, output, first and second input, and go out as pairs, larger input first. Refusals 1 to 4 and 22 write nothing; the
+// others clear the lent lists as far as they are named.
 pub fn renumber(
     circuit: CircuitRecord,
     inputs: &[u32],
     states: &[u32],
     nexts: &[u32],
+    resets: &[u32],
     gates: &[u32],
     roots: &[u32],
     map: &mut [u32],
     next_images: &mut [u32],
+    reset_images: &mut [u32],
     root_images: &mut [u32],
     gates_out: &mut [u32],
     scratch: &mut [u32],
@@ -52,6 +55,7 @@ pub fn renumber(
       answer = r;
       map = now (map .exit);
       nextImages = now («next_images» .exit);
+      resetImages = now («reset_images» .exit);
       rootImages = now («root_images» .exit);
       gatesOut = now («gates_out» .exit);
       scratch = now (scratch .exit);
@@ -60,10 +64,12 @@ pub fn renumber(
       inputs = now (inputs .entry);
       states = now (states .entry);
       nexts = now (nexts .entry);
+      resets = now (resets .entry);
       gates = now (gates .entry);
       roots = now (roots .entry);
       map = now (map .entry);
       nextImages = now («next_images» .entry);
+      resetImages = now («reset_images» .entry);
       rootImages = now («root_images» .entry);
       gatesOut = now («gates_out» .entry);
       scratch = now (scratch .entry);
@@ -74,10 +80,12 @@ pub fn renumber(
         inputs,
         states,
         nexts,
+        resets,
         gates,
         roots,
         map,
         next_images,
+        reset_images,
         root_images,
         gates_out,
         scratch,
@@ -101,10 +109,12 @@ pub fn renumber(
                 inputs,
                 states,
                 nexts,
+                resets,
                 gates,
                 roots,
                 map,
                 next_images,
+                reset_images,
                 root_images,
                 gates_out,
                 scratch,

@@ -1,5 +1,6 @@
 // Checks 5 and 6 and all walks of a circuit, in the fronts of lent lists.
-ghost use Rattle.circuit.specs.Circuit.{renumber};
+ghost use mathlib.Core.List.{[]};
+ghost use Rattle.circuit.specs.Circuit.{numbered};
 ghost use Rattle.checks.specs.Bare.{bare, circuitIn};
 ghost use Rattle.aig.specs.Walked.{WalkIn, EndsIn};
 use crate::order;
@@ -9,7 +10,7 @@ use circuit::CircuitRecord;
 use ending::Walked;
 use lent::words::wide;
 
-// Checks 5 and 6; then gate outputs unless trimmed, next states and roots are walked.
+// Checks 5 and 6; then gate outputs unless trimmed, next states and roots are walked. No reset is seen: the circuit stands here with none.
 pub fn walk_all(
     circuit: CircuitRecord,
     inputs: &[u32],
@@ -21,10 +22,10 @@ pub fn walk_all(
     gates_out: &mut [u32],
     scratch: &mut [u32],
 ) -> Walked
-    requires { ⌜ WalkIn (bare circuit (now inputs) (now states) (now nexts) (now gates) (now roots)) (now map) (now «gates_out») (now scratch) ⌝ }
-    ensures { λ r. ⌜ EndsIn (circuitIn circuit (now (inputs .entry)) (now (states .entry)) (now (nexts .entry)) (now (gates .entry))
+    requires { ⌜ WalkIn (bare circuit (now inputs) (now states) (now nexts) [] (now gates) (now roots)) (now map) (now «gates_out») (now scratch) ⌝ }
+    ensures { λ r. ⌜ EndsIn (circuitIn circuit (now (inputs .entry)) (now (states .entry)) (now (nexts .entry)) [] (now (gates .entry))
         (now (roots .entry))) (now (map .entry)) (now («gates_out» .entry)) (now (scratch .entry))
-        (renumber (circuitIn circuit (now (inputs .entry)) (now (states .entry)) (now (nexts .entry)) (now (gates .entry)) (now (roots .entry)))) r
+        (numbered (circuitIn circuit (now (inputs .entry)) (now (states .entry)) (now (nexts .entry)) [] (now (gates .entry)) (now (roots .entry)))) r
         (now (map .exit)) (now («gates_out» .exit)) (now (scratch .exit)) ⌝ }
 {
     let check = beginning::prepare(circuit, inputs, states, gates, map, gates_out, scratch);

@@ -1,6 +1,6 @@
 -- The checks, the records laid flat, and the rest come to the outcome with records. The checks on lengths and on the records say what those on the
--- records laid flat say; where they pass, nothing below refusal 5 can be answered; and the words that the records took are the first of the
--- sixth list. Assumes nothing.
+-- records laid flat say; where they pass, no refusal that writes nothing can be answered; and the words that the records took are the first of the
+-- last list. Assumes nothing.
 use Prim.Native.Nat.{ℕ, _+_, _*_, _/_, _%_, _≤_}
 use mathlib.Core.Path.{_≡_, refl, sym, ap, ap₂, _∙_, subst⁻¹}
 use mathlib.Core.Logic.{inl}
@@ -8,7 +8,7 @@ use mathlib.Core.Bool.{Bool, true, false, not, cond, _&&_, true≢false}
 use mathlib.Core.Option.{Option, none, some}
 use mathlib.Core.List.{List, [], _∷_, _++_}
 use native.Mathlib.Omega.{arith}
-use lib.Dec.{leb, ltb}
+use lib.Dec.{ltb}
 use borrow.Author.Tests.{ltb-false}
 use lib.ListN.{length, take, drop, length-append, length-drop, length-replicate}
 use lib.Seq.{take-at, drop-at, take-length}
@@ -16,15 +16,15 @@ use Rattle.lit.specs.Code.{literal}
 use Rattle.circuit.specs.declared.CircuitRecord.{CircuitRecord}
 use Rattle.circuit.specs.declared.Refusal.{Refusal}
 use Rattle.circuit.specs.declared.Refusal.the-variants as Refusals
-use Rattle.circuit.specs.declared.Refusal.the-variants.{TooBig, Misshapen, Short, Over, StateAgain, Undefined, Cycle}
-use Rattle.circuit.specs.Refusals.{refusalNumber}
+use Rattle.circuit.specs.declared.Refusal.the-variants.{TooBig, Misshapen, Short, Over, Reset, StateAgain, Undefined, Cycle}
 use Rattle.circuit.specs.Walk.{Out, reached, stopped}
-use Rattle.circuit.specs.Circuit.{Circuit, gateCodes, latchCodes, codes, firstOver, renumber}
-use Rattle.circuit.specs.Outcome.{Lent, Outcome, lentOf, circuitOf, gatesOf, tooBig, misshapen, tooShort, conclusion, onto, zeros, untouched, cleared, outcome}
+use Rattle.circuit.specs.Circuit.{Circuit, gateCodes, latchCodes, codes, firstOver, firstStray, renumber}
+use Rattle.circuit.specs.Outcome.{Lent, Outcome, lentOf, circuitOf, gatesOf, tooBig, misshapen, tooShort, conclusion, onto, zeros, untouched, cleared, isEarly, outcome}
 use Rattle.circuit.specs.Tested.{Fits, Tested}
 use Rattle.circuit.specs.Graph.{In}
 use Rattle.circuit.proofs.Lists.{In-right}
-use Rattle.circuit.proofs.Outcome.{onto-long, Concluded, concluded, bounds, refusal-of, success-of, conclusion-of}
+use Rattle.circuit.proofs.Checks.{no-stray}
+use Rattle.circuit.proofs.Outcome.{onto-long, Concluded, concluded, bounds, all-reset, refusal-of, success-of, conclusion-of}
 use Rattle.aig_records.specs.declared.GateRecord.{GateRecord}
 use Rattle.checks.specs.declared.Check.{Check}
 use Rattle.checks.specs.declared.Check.the-variants.{Passed, Failed}
@@ -48,9 +48,9 @@ flat-codes : (gs : List GateRecord) → gateCodes (gatesOf (flatOf gs)) ≡ flat
 flat-codes [] = refl
 flat-codes (g ∷ gs) = ap (λ (l : List ℕ). recordWords g ++ l) (flat-codes gs)
 
--- where checks 1 to 4 pass, the words that the records took are 0 afterwards
+-- where checks 1 to 4 and 22 pass, the words that the records took are 0 afterwards
 module _ (l : Lent) (flat : List ℕ) (p : Tested l) where
-  late : (r : Refusal) → Concluded l (stopped r) → leb (refusalNumber r) 4 ≡ false
+  late : (r : Refusal) → Concluded l (stopped r) → isEarly r ≡ false
   late TooBig k = absurd (true≢false (sym k ∙ p .fits .one))
   late Misshapen k = absurd (true≢false (sym (k .1) ∙ p .fits .two))
   late Short k = absurd (true≢false (sym (k .2) ∙ p .fits .three))
@@ -60,12 +60,13 @@ module _ (l : Lent) (flat : List ℕ) (p : Tested l) where
         bounds l p (d .0) (subst⁻¹ (In (d .0)) (k .1 .splits) (In-right (d .0) (k .1 .before) (d .0 ∷ k .1 .after) (inl refl))),
         k .1 .isOver,
       ))
+  late (Reset d) k = absurd (no-stray (l .states) (l .resets) (d .0) (k .2) (all-reset l p))
   late (Refusals.Again d) k = refl
   late (StateAgain d) k = refl
   late (Undefined d) k = refl
   late (Cycle d) k = refl
 
-  answered-late : (r : Refusal) (b : Bool) → leb (refusalNumber r) 4 ≡ b → b ≡ false
+  answered-late : (r : Refusal) (b : Bool) → isEarly r ≡ b → b ≡ false
       → flatAfter l ((cond b (untouched l r) (cleared l (circuitOf l) r)) .answer) flat ≡ onto (zeros (length (l .gates))) flat
   answered-late r true e n = absurd (true≢false n)
   answered-late r false e n = ap (λ (b : Bool). cond b flat (onto (zeros (length (l .gates))) flat)) e
@@ -76,7 +77,7 @@ module _ (l : Lent) (flat : List ℕ) (p : Tested l) where
       go : (o : Out) → conclusion l ≡ o → Concluded l o → flatAfter l (outcome l .answer) flat ≡ onto (zeros (length (l .gates))) flat
       go (reached w) e k = ap (λ (o : Outcome). flatAfter l (o .answer) flat) (success-of l w e)
       go (stopped r) e k =
-          ap (λ (o : Outcome). flatAfter l (o .answer) flat) (refusal-of l r e) ∙ answered-late r (leb (refusalNumber r) 4) refl (late r k)
+          ap (λ (o : Outcome). flatAfter l (o .answer) flat) (refusal-of l r e) ∙ answered-late r (isEarly r) refl (late r k)
 
 -- the outcome with records, by what the checks say
 module _ (l : Lent) (flat : List ℕ) where
@@ -86,7 +87,7 @@ module _ (l : Lent) (flat : List ℕ) where
   abbrev pub plain : FlatOutcome
   plain = withFlat (outcome l) (flatAfter l (outcome l .answer) flat)
 
-  pub early : (r : Refusal) → leb (refusalNumber r) 4 ≡ true → conclusion l ≡ stopped r → plain ≡ withFlat (untouched l r) flat
+  pub early : (r : Refusal) → isEarly r ≡ true → conclusion l ≡ stopped r → plain ≡ withFlat (untouched l r) flat
   early r n e =
       ap (λ (o : Outcome). withFlat o (flatAfter l (o .answer) flat)) (refusal-of l r e ∙ ap (λ (b : Bool). cond b (untouched l r) (cleared l C r)) n)
       ∙ ap (λ (b : Bool). withFlat (untouched l r) (cond b flat (onto (zeros (length (l .gates))) flat))) n
@@ -108,34 +109,43 @@ module _ (l : Lent) (flat : List ℕ) where
   unfolding renumber
   stops-4 f c e = conclusion-of l f ∙ rw e
 
+  stops-22 : Fits l → firstOver (2 * C .top + 1) (codes C) ≡ none → (c : ℕ) → firstStray (l .states) (l .resets) ≡ some c
+      → conclusion l ≡ stopped (Reset (literal c))
+  unfolding renumber
+  stops-22 f e c s = conclusion-of l f ∙ rw (e, s)
+
   judged : outcomeOfRecords l flat ≡ finished (verdict (sizing (l .circuit) (lengthsOf l)) (ltb (length flat) (length (l .gates)))
-      (found (firstOver (2 * C .top + 1) (codes C)))) l flat
+      (found (firstOver (2 * C .top + 1) (codes C))) (found (firstStray (l .states) (l .resets)))) l flat
   unfolding outcomeOfRecords flatShort
   judged =
       go (tooBig C) refl (misshapen l) refl (tooShort l C) refl (ltb (length flat) (length (l .gates))) (firstOver (2 * C .top + 1) (codes C)) refl
-      ∙ ap (λ (c : Check). finished (verdict c (ltb (length flat) (length (l .gates))) (found (firstOver (2 * C .top + 1) (codes C)))) l flat)
-      (sym (sizing-is l))
+      (firstStray (l .states) (l .resets)) refl
+      ∙ ap (λ (c : Check). finished (verdict c (ltb (length flat) (length (l .gates))) (found (firstOver (2 * C .top + 1) (codes C)))
+      (found (firstStray (l .states) (l .resets)))) l flat) (sym (sizing-is l))
     where
       go : (b : Bool) → tooBig C ≡ b → (u : Bool) → misshapen l ≡ u → (s : Bool) → tooShort l C ≡ s → (f : Bool) → (o : Option ℕ)
-          → firstOver (2 * C .top + 1) (codes C) ≡ o
+          → firstOver (2 * C .top + 1) (codes C) ≡ o → (t : Option ℕ) → firstStray (l .states) (l .resets) ≡ t
           → cond (not b && not u && f) (withFlat (untouched l Short) flat) plain
-          ≡ finished (verdict (failIf b TooBig (failIf u Misshapen (failIf s Short Passed))) f (found o)) l flat
-      go true p u q s r f o e = early TooBig refl (stops-1 p)
-      go false p true q s r f o e = early Misshapen refl (stops-2 p q)
-      go false p false q true r true o e = refl
-      go false p false q true r false o e = early Short refl (stops-3 p q r)
-      go false p false q false r true o e = refl
-      go false p false q false r false (some c) e = early (Over (literal c)) refl (stops-4 (record { one = p; two = q; three = r }) c e)
-      go false p false q false r false none e =
-          ap (withFlat (outcome l)) (cleared-after l flat (record { fits = record { one = p; two = q; three = r }; four = e }))
+          ≡ finished (verdict (failIf b TooBig (failIf u Misshapen (failIf s Short Passed))) f (found o) (found t)) l flat
+      go true p u q s r f o e t h = early TooBig refl (stops-1 p)
+      go false p true q s r f o e t h = early Misshapen refl (stops-2 p q)
+      go false p false q true r true o e t h = refl
+      go false p false q true r false o e t h = early Short refl (stops-3 p q r)
+      go false p false q false r true o e t h = refl
+      go false p false q false r false (some c) e t h = early (Over (literal c)) refl (stops-4 (record { one = p; two = q; three = r }) c e)
+      go false p false q false r false none e (some c) h = early (Reset (literal c)) refl (stops-22 (record { one = p; two = q; three = r }) e c h)
+      go false p false q false r false none e none h =
+          ap (withFlat (outcome l))
+          (cleared-after l flat (record { fits = record { one = p; two = q; three = r }; four = e; twentyTwo = h }))
 
-module _ (circuit : CircuitRecord) (inputs states nexts : List ℕ) (gates : List GateRecord)
-    (roots map nextImages rootImages gatesOut scratch flat : List ℕ) where
+module _ (circuit : CircuitRecord) (inputs states nexts resets : List ℕ) (gates : List GateRecord)
+    (roots map nextImages resetImages rootImages gatesOut scratch flat : List ℕ) where
   abbrev rooms : Rooms
   rooms =
       record {
         map = length map;
         «next_images» = length nextImages;
+        «reset_images» = length resetImages;
         «root_images» = length rootImages;
         «gates_out» = length gatesOut;
         scratch = length
@@ -144,17 +154,17 @@ module _ (circuit : CircuitRecord) (inputs states nexts : List ℕ) (gates : Lis
       }
 
   abbrev ck : Checked
-  ck = checkedOf circuit inputs states nexts roots (length gates) (overIn (circuit .top) gates) rooms
+  ck = checkedOf circuit inputs states nexts resets roots (length gates) (overIn (circuit .top) gates) rooms
 
   -- what is lent, with the gates flat
   abbrev lent : List ℕ → Lent
-  lent gs = lentOf circuit inputs states nexts gs roots map nextImages rootImages gatesOut scratch
+  lent gs = lentOf circuit inputs states nexts resets gs roots map nextImages resetImages rootImages gatesOut scratch
 
   abbrev l : Lent
   l = lent (flatOf gates)
 
   -- the lengths are those of the records laid flat
-  lengths-are : lengthsWith inputs states nexts roots (length gates) rooms ≡ lengthsOf l
+  lengths-are : lengthsWith inputs states nexts resets roots (length gates) rooms ≡ lengthsOf l
   lengths-are =
       let third : length gates ≡ length (flatOf gates) / 3 = omega (arith, flat-length gates) in
       let none-left : 0 ≡ length (flatOf gates) % 3 = omega (arith, flat-length gates) in
@@ -162,11 +172,13 @@ module _ (circuit : CircuitRecord) (inputs states nexts : List ℕ) (gates : Lis
         inputs = length inputs;
         states = length states;
         nexts = length nexts;
+        resets = length resets;
         gates = g;
         «left_over» = k;
         roots = length roots;
         map = length map;
         «next_images» = length nextImages;
+        «reset_images» = length resetImages;
         «root_images» = length rootImages;
         «gates_out» = length gatesOut;
         scratch = length scratch;
@@ -176,30 +188,32 @@ module _ (circuit : CircuitRecord) (inputs states nexts : List ℕ) (gates : Lis
   short-is =
       let words : 3 * length gates ≡ length (flatOf gates) = omega (arith, flat-length gates) in ap (λ (k : ℕ). ltb (length flat) k) words
 
-  first-is : overAll (circuit .top .0) inputs (overIn (circuit .top) gates) states nexts roots ≡ found
+  first-is : overAll (circuit .top .0) inputs (overIn (circuit .top) gates) states nexts resets roots ≡ found
       (firstOver (2 * circuit .top .0 + 1) (codes (circuitOf l)))
   unfolding codes
   first-is =
       let t = circuit .top .0 in
       sym
-      (over-append t inputs (gateCodes (gatesOf (flatOf gates)) ++ (latchCodes states nexts ++ roots))
+      (over-append t inputs (gateCodes (gatesOf (flatOf gates)) ++ (latchCodes states nexts resets ++ roots))
       ∙ ap (orElse (firstIn t inputs))
-      (over-append t (gateCodes (gatesOf (flatOf gates))) (latchCodes states nexts ++ roots)
-      ∙ ap₂ orElse (ap (firstIn t) (flat-codes gates)) (over-append t (latchCodes states nexts) roots)))
+      (over-append t (gateCodes (gatesOf (flatOf gates))) (latchCodes states nexts resets ++ roots)
+      ∙ ap₂ orElse (ap (firstIn t) (flat-codes gates)) (over-append t (latchCodes states nexts resets) roots)))
 
   abbrev says : Check
-  says = verdict (sizing circuit (lengthsOf l)) (ltb (length flat) (length (flatOf gates))) (found (firstOver (2 * circuit .top .0 + 1) (codes (circuitOf l))))
+  says =
+      verdict (sizing circuit (lengthsOf l)) (ltb (length flat) (length (flatOf gates))) (found (firstOver (2 * circuit .top .0 + 1) (codes (circuitOf l))))
+      (found (firstStray states resets))
 
   checked-is : ck ≡ planned (length gates) says
   unfolding checkedOf
-  checked-is = λ i. planned (length gates) (verdict (sizing circuit (lengths-are i)) (short-is i) (first-is i))
+  checked-is = λ i. planned (length gates) (verdict (sizing circuit (lengths-are i)) (short-is i) (first-is i) (found (firstStray states resets)))
 
   -- where they pass, the records' codes have room
   room-for : says ≡ Passed → length (flatOf gates) ≤ length flat
   room-for = go (sizing circuit (lengthsOf l)) (ltb (length flat) (length (flatOf gates))) refl
     where
       go : (c : Check) (s : Bool) → ltb (length flat) (length (flatOf gates)) ≡ s
-          → verdict c s (found (firstOver (2 * circuit .top .0 + 1) (codes (circuitOf l)))) ≡ Passed → length (flatOf gates) ≤ length flat
+          → verdict c s (found (firstOver (2 * circuit .top .0 + 1) (codes (circuitOf l)))) (found (firstStray states resets)) ≡ Passed → length (flatOf gates) ≤ length flat
       go (Failed why) s e k = absurd (let z : _≡_ {A = ℕ} 0 1 = cc in omega arith)
       go Passed true e k = absurd (let z : _≡_ {A = ℕ} 0 1 = cc in omega arith)
       go Passed false e k = ltb-false (length flat) (length (flatOf gates)) e

@@ -30,9 +30,11 @@ fn finish(
     inputs: &[u32],
     states: &[u32],
     nexts: &[u32],
+    resets: &[u32],
     roots: &[u32],
     map: &mut [u32],
     next_images: &mut [u32],
+    reset_images: &mut [u32],
     root_images: &mut [u32],
     gates_out: &mut [u32],
     scratch: &mut [u32],
@@ -43,6 +45,7 @@ fn finish(
       answer = r;
       map = now (map .exit);
       nextImages = now («next_images» .exit);
+      resetImages = now («reset_images» .exit);
       rootImages = now («root_images» .exit);
       gatesOut = now («gates_out» .exit);
       scratch = now (scratch .exit);
@@ -51,10 +54,12 @@ fn finish(
       inputs = now (inputs .entry);
       states = now (states .entry);
       nexts = now (nexts .entry);
+      resets = now (resets .entry);
       gates = take (checked .laid * 3) (now (flat .entry));
       roots = now (roots .entry);
       map = now (map .entry);
       nextImages = now («next_images» .entry);
+      resetImages = now («reset_images» .entry);
       rootImages = now («root_images» .entry);
       gatesOut = now («gates_out» .entry);
       scratch = now (scratch .entry);
@@ -70,10 +75,12 @@ fn finish(
                 inputs,
                 states,
                 nexts,
+                resets,
                 &flat[..words],
                 roots,
                 map,
                 next_images,
+                reset_images,
                 root_images,
                 gates_out,
                 scratch,
@@ -85,16 +92,19 @@ fn finish(
 }
 
 // Renumbers a circuit as `aig::renumber` does, with gates that are records. Their codes are laid flat in the first words of `flat`, three a record,
-// once checks 1 to 4 have passed; afterwards those words are 0. Refusals 1 to 4 write nothing; 3 is given also where `flat` is too short.
+// once checks 1 to 4 and 22 have passed; afterwards those words are 0. Refusals 1 to 4 and 22 write nothing; 3 is given also where `flat` is too
+// short.
 pub fn renumber_records(
     circuit: CircuitRecord,
     inputs: &[u32],
     states: &[u32],
     nexts: &[u32],
+    resets: &[u32],
     gates: &[GateRecord],
     roots: &[u32],
     map: &mut [u32],
     next_images: &mut [u32],
+    reset_images: &mut [u32],
     root_images: &mut [u32],
     gates_out: &mut [u32],
     scratch: &mut [u32],
@@ -104,6 +114,7 @@ pub fn renumber_records(
       answer = r;
       map = now (map .exit);
       nextImages = now («next_images» .exit);
+      resetImages = now («reset_images» .exit);
       rootImages = now («root_images» .exit);
       gatesOut = now («gates_out» .exit);
       scratch = now (scratch .exit);
@@ -112,10 +123,12 @@ pub fn renumber_records(
       inputs = now (inputs .entry);
       states = now (states .entry);
       nexts = now (nexts .entry);
+      resets = now (resets .entry);
       gates = flatOf (now (gates .entry));
       roots = now (roots .entry);
       map = now (map .entry);
       nextImages = now («next_images» .entry);
+      resetImages = now («reset_images» .entry);
       rootImages = now («root_images» .entry);
       gatesOut = now («gates_out» .entry);
       scratch = now (scratch .entry);
@@ -125,6 +138,7 @@ pub fn renumber_records(
     let rooms = Rooms {
         map: map.len(),
         next_images: next_images.len(),
+        reset_images: reset_images.len(),
         root_images: root_images.len(),
         gates_out: gates_out.len(),
         scratch: scratch.len(),
@@ -135,6 +149,7 @@ pub fn renumber_records(
         inputs,
         states,
         nexts,
+        resets,
         roots,
         gates.len(),
         found,
@@ -147,9 +162,11 @@ pub fn renumber_records(
         inputs,
         states,
         nexts,
+        resets,
         roots,
         map,
         next_images,
+        reset_images,
         root_images,
         gates_out,
         scratch,

@@ -1,5 +1,5 @@
 // Questions about binary files: the word `file` and the file's bytes. The answer is `F`, the number and the eleven words of `file_words::read`, and of a
-// file that is taken the next states, gates, justice sizes and roots. The lists are long enough for every file that is asked about; they hold
+// file that is taken the next states, resets, gates, justice sizes and roots. The lists are long enough for every file that is asked about; they hold
 // a word that is no literal, so that a word written past those named would show.
 use crate::fields;
 use crate::say;
@@ -12,6 +12,7 @@ pub fn answer(line: &[u8]) {
 
 fn read(file: &[u8]) {
     let mut nexts = [4294967295u32; 16];
+    let mut resets = [4294967295u32; 16];
     let mut gates = [4294967295u32; 128];
     let mut sizes = [4294967295u32; 8];
     let mut roots = [4294967295u32; 32];
@@ -19,6 +20,7 @@ fn read(file: &[u8]) {
     let number = file_words::read(
         file,
         &mut nexts,
+        &mut resets,
         &mut gates,
         &mut sizes,
         &mut roots,
@@ -27,6 +29,7 @@ fn read(file: &[u8]) {
     say::file(number, &words);
     if number == 0 {
         say::front(&nexts);
+        say::front(&resets);
         say::front(&gates);
         say::front(&sizes);
         say::front(&roots);

@@ -1,5 +1,5 @@
-// Questions about writing: `write`, the bytes that are lent, the number of inputs, and behind K, N, G, S and R the counts, next states, gates, justice sizes and
-// roots; or `again` and the bytes of a file, which is read and written into as many bytes. The answer is `W`, the number and the two words of
+// Questions about writing: `write`, the bytes that are lent, the number of inputs, and behind K, N, T, G, S and R the counts, next states, resets, gates, justice sizes
+// and roots; or `again` and the bytes of a file, which is read and written into as many bytes. The answer is `W`, the number and the two words of
 // `file_words::write`, and every lent byte, which is 165 where nothing is written. A file that is refused is answered `R`, the number and the place.
 ghost use Prim.Native.Nat.{_<_};
 ghost use Rattle.io.specs.Counts.{Counts};
@@ -11,10 +11,16 @@ pub fn answer(line: &[u8]) {
     let mut nexts = [0u32; 16];
     let k = fields::list(line, b'K', &mut counts);
     let n = fields::list(line, b'N', &mut nexts);
-    with_gates(line, &counts[..k], &nexts[..n]);
+    with_resets(line, &counts[..k], &nexts[..n]);
 }
 
-fn with_gates(line: &[u8], counts: &[u32], nexts: &[u32]) {
+fn with_resets(line: &[u8], counts: &[u32], nexts: &[u32]) {
+    let mut resets = [0u32; 16];
+    let t = fields::list(line, b'T', &mut resets);
+    with_gates(line, counts, nexts, &resets[..t]);
+}
+
+fn with_gates(line: &[u8], counts: &[u32], nexts: &[u32], resets: &[u32]) {
     let mut gates = [0u32; 128];
     let mut sizes = [0u32; 8];
     let mut roots = [0u32; 32];
@@ -28,6 +34,7 @@ fn with_gates(line: &[u8], counts: &[u32], nexts: &[u32]) {
         (inputs.value % 4294967296) as u32,
         counts,
         nexts,
+        resets,
         &gates[..g],
         &sizes[..s],
         &roots[..r],
@@ -40,13 +47,23 @@ fn lent(
     inputs: u32,
     counts: &[u32],
     nexts: &[u32],
+    resets: &[u32],
     gates: &[u32],
     sizes: &[u32],
     roots: &[u32],
 ) {
     let mut out = [165u8; 256];
     let n = bytes_front(room, &out);
-    written(inputs, counts, nexts, gates, sizes, roots, &mut out[..n]);
+    written(
+        inputs,
+        counts,
+        nexts,
+        resets,
+        gates,
+        sizes,
+        roots,
+        &mut out[..n],
+    );
 }
 
 // Writes the circuit, and answers with what is written.
@@ -54,13 +71,24 @@ fn written(
     inputs: u32,
     counts: &[u32],
     nexts: &[u32],
+    resets: &[u32],
     gates: &[u32],
     sizes: &[u32],
     roots: &[u32],
     out: &mut [u8],
 ) {
     let mut words = [0u64; 2];
-    let number = file_words::write(inputs, counts, nexts, gates, sizes, roots, out, &mut words);
+    let number = file_words::write(
+        inputs,
+        counts,
+        nexts,
+        resets,
+        gates,
+        sizes,
+        roots,
+        out,
+        &mut words,
+    );
     say::written(number, words);
     say::hex(out);
     say::text(b"\n");
@@ -74,6 +102,7 @@ pub fn again(line: &[u8]) {
 
 fn read(file: &[u8]) {
     let mut nexts = [0u32; 16];
+    let mut resets = [0u32; 16];
     let mut gates = [0u32; 128];
     let mut sizes = [0u32; 8];
     let mut roots = [0u32; 32];
@@ -81,20 +110,29 @@ fn read(file: &[u8]) {
     let number = file_words::read(
         file,
         &mut nexts,
+        &mut resets,
         &mut gates,
         &mut sizes,
         &mut roots,
         &mut words,
     );
     if number == 0 {
-        fronts(file.len(), &words, &nexts, &gates, &sizes, &roots);
+        fronts(file.len(), &words, &nexts, &resets, &gates, &sizes, &roots);
     } else {
         say::refusal(number as u64, words[0]);
     }
 }
 
 // Writes the circuit of a file's words and of the fronts of its lists.
-fn fronts(room: usize, words: &[u64], nexts: &[u32], gates: &[u32], sizes: &[u32], roots: &[u32]) {
+fn fronts(
+    room: usize,
+    words: &[u64],
+    nexts: &[u32],
+    resets: &[u32],
+    gates: &[u32],
+    sizes: &[u32],
+    roots: &[u32],
+) {
     let outputs = count(words, 5);
     let bad = count(words, 6);
     let constraints = count(words, 7);
@@ -103,6 +141,7 @@ fn fronts(room: usize, words: &[u64], nexts: &[u32], gates: &[u32], sizes: &[u32
     let counts = [outputs, bad, constraints, fairness, justice];
     let all = outputs + bad + constraints + fairness + justice;
     let l = front(count(words, 3) as usize, nexts);
+    let t = front(count(words, 3) as usize, resets);
     let g = front((count(words, 4) * 2) as usize, gates);
     let s = front(count(words, 10) as usize, sizes);
     let r = front(all as usize, roots);
@@ -111,6 +150,7 @@ fn fronts(room: usize, words: &[u64], nexts: &[u32], gates: &[u32], sizes: &[u32
         count(words, 2),
         &counts,
         &nexts[..l],
+        &resets[..t],
         &gates[..g],
         &sizes[..s],
         &roots[..r],

@@ -82,6 +82,7 @@ file-to-file bytes g enough out = go (two-ends bytes g enough)
             let fit = read-holds bytes (roomOf (g .file)) f used e in
             record {
               nexts = omega (arith, fit .nexts, a .keeps .latches);
+              resets = omega (arith, fit .nexts, fit .resets, a .keeps .latches, sound .wellOrdered .resetCount, its .wellOrdered .resetCount);
               gates = omega (arith, fit .gates, a .noMore);
               sizes = fit .sizes;
               roots = omega (arith, fit .roots, a .keeps .rootCount);

@@ -42,31 +42,32 @@ module _ (w : Words) (g : Given w) where
       → top ≡ h .top → top ≡ variablesOf (circuitIn w)
   its-top h e top t = t ∙ ap (λ (x : Header). x .top) e ∙ omega (arith, pairs-length (w .gates))
 
-  pub countable : (top : ℕ) → top ≡ variablesOf (circuitIn w) → (top ≤ limit) × (length (w .roots) ≤ limit) × (length (w .sizes) ≤ limit)
-  countable top t = (omega (arith, g .ordered .variables), g .ordered .few, g .sets)
+  pub countable : (top : ℕ) → top ≡ variablesOf (circuitIn w) → (top ≤ limit) × (length (w .nexts) ≤ limit) × (length (w .roots) ≤ limit)
+      × (length (w .sizes) ≤ limit)
+  countable top t = (omega (arith, g .ordered .variables), omega (arith, g .ordered .variables), g .ordered .few, g .sets)
 
-  pub roomy : (top most : ℕ) → top ≡ variablesOf (circuitIn w) → most ≡ 76 + 8 * (top + length (w .roots) + length (w .sizes))
+  pub roomy : (top most : ℕ) → top ≡ variablesOf (circuitIn w) → most ≡ 76 + 8 * (top + length (w .nexts) + length (w .roots) + length (w .sizes))
       → length (fileOf (fileIn w)) ≤ most
   roomy top most t m = omega (arith, t, m, file-most w g)
 
   pub its-parts : (h : Header) → h ≡ headerFor (fileIn w)
-      → partsOf h (w .nexts) (w .sizes) (w .roots) (h .inputs + length (w .nexts)) (pairsOf (w .gates)) ≡ fileOf (fileIn w)
-  its-parts h e = ap (λ (x : Header). partsOf x (w .nexts) (w .sizes) (w .roots) (x .inputs + length (w .nexts)) (pairsOf (w .gates))) e
+      → partsOf h (w .nexts) (w .resets) (w .sizes) (w .roots) (h .inputs + length (w .nexts)) (pairsOf (w .gates)) ≡ fileOf (fileIn w)
+  its-parts h e = ap (λ (x : Header). partsOf x (w .nexts) (w .resets) (w .sizes) (w .roots) (x .inputs + length (w .nexts)) (pairsOf (w .gates))) e
 
   -- the place after all of it is its length
   pub measured : (h : Header) → h ≡ headerFor (fileIn w) → (n : ℕ)
-      → n ≡ further 0 (length (partsOf h (w .nexts) (w .sizes) (w .roots) (h .inputs + length (w .nexts)) (pairsOf (w .gates))))
+      → n ≡ further 0 (length (partsOf h (w .nexts) (w .resets) (w .sizes) (w .roots) (h .inputs + length (w .nexts)) (pairsOf (w .gates))))
       → n ≡ length (fileOf (fileIn w))
   measured h e n m =
       let whole = its-parts h e in
-      let short = file-short (headerFor (fileIn w)) (w .nexts) (w .sizes) (w .roots) (w .inputs + length (w .nexts)) (pairsOf (w .gates))
+      let short = file-short (headerFor (fileIn w)) (w .nexts) (w .resets) (w .sizes) (w .roots) (w .inputs + length (w .nexts)) (pairsOf (w .gates))
       (omega (arith, few .0)) (g .sets) (g .ordered .few) (omega (arith, few .0, pairs-length (w .gates))) in
       m ∙ ap (λ (l : List ℕ). further 0 (length l)) whole ∙ omega (arith, short)
 
   -- nothing is put into no bytes
   pub none-put : (h : Header) (out : List ℕ)
-      → out ≡ putAll [] 0 (partsOf h (w .nexts) (w .sizes) (w .roots) (h .inputs + length (w .nexts)) (pairsOf (w .gates))) → out ≡ []
-  none-put h out e = e ∙ put-all-past [] 0 (partsOf h (w .nexts) (w .sizes) (w .roots) (h .inputs + length (w .nexts)) (pairsOf (w .gates))) (omega arith)
+      → out ≡ putAll [] 0 (partsOf h (w .nexts) (w .resets) (w .sizes) (w .roots) (h .inputs + length (w .nexts)) (pairsOf (w .gates))) → out ≡ []
+  none-put h out e = e ∙ put-all-past [] 0 (partsOf h (w .nexts) (w .resets) (w .sizes) (w .roots) (h .inputs + length (w .nexts)) (pairsOf (w .gates))) (omega arith)
 
   pub too-short : (out : List ℕ) (n : ℕ) → n ≡ length (fileOf (fileIn w)) → length out < n
       → wrote (Unwritten Short n) out ≡ writtenTo (fileOf (fileIn w)) out
@@ -74,10 +75,10 @@ module _ (w : Words) (g : Given w) where
 
   -- the bytes that fit are put, after nothing was
   pub whole : (h : Header) → h ≡ headerFor (fileIn w) → (none out out′ : List ℕ) (n : ℕ) → n ≡ length (fileOf (fileIn w)) → n ≤ length out → none ≡ []
-      → out′ ≡ putAll (none ++ out) 0 (partsOf h (w .nexts) (w .sizes) (w .roots) (h .inputs + length (w .nexts)) (pairsOf (w .gates)))
+      → out′ ≡ putAll (none ++ out) 0 (partsOf h (w .nexts) (w .resets) (w .sizes) (w .roots) (h .inputs + length (w .nexts)) (pairsOf (w .gates)))
       → wrote (Written n) out′ ≡ writtenTo (fileOf (fileIn w)) out
   whole h e none out out′ n m fits nothing put =
-      let parts = partsOf h (w .nexts) (w .sizes) (w .roots) (h .inputs + length (w .nexts)) (pairsOf (w .gates)) in
+      let parts = partsOf h (w .nexts) (w .resets) (w .sizes) (w .roots) (h .inputs + length (w .nexts)) (pairsOf (w .gates)) in
       let there : out′ ≡ onto (fileOf (fileIn w)) out
       = put ∙ ap (λ (x : List ℕ). putAll (x ++ out) 0 parts) nothing ∙ ap (putAll out 0) (its-parts h e)
       ∙ put-onto out (fileOf (fileIn w)) (omega (arith, m, fits)) in

@@ -1,4 +1,4 @@
--- How long a file is at most: a line has 21 bytes or fewer, a gate sixteen, so that every place in it is one of 64 bits. Assumes nothing.
+-- How long a file is at most: a line has 21 bytes or fewer, a latch's 42, a gate sixteen, so that every place in it is one of 64 bits. Assumes nothing.
 use Prim.Native.Nat.{ℕ, zero, suc, _+_, _-_, _*_, _/_, _%_, _≤_}
 use mathlib.Core.Path.{_≡_, refl}
 use mathlib.Core.Bool.{Bool, true, false, cond}
@@ -13,8 +13,8 @@ use Rattle.circuit.specs.Walk.{Pair, firstCode}
 use Rattle.circuit.specs.Outcome.{limit}
 use Rattle.lines.specs.declared.Header.{Header}
 use Rattle.lines.specs.Sections.{rootsOf}
-use Rattle.sections.specs.Bytes.{rowBytes, lineBytes, linesBytes, countBytes, countsBytes, countsOf, upToLast, optional, afterTag, headerBytes, rootsBytes}
-use Rattle.sections.proofs.Parts.{kept-few}
+use Rattle.sections.specs.Bytes.{rowBytes, lineBytes, linesBytes, countBytes, countsBytes, countsOf, upToLast, optional, afterTag, headerBytes, rootsBytes, latchBytes, latchesBytes}
+use Rattle.sections.proofs.Parts.{kept-few, latch-most}
 use Rattle.binary.specs.File.{tag}
 use Rattle.binary.specs.Write.{gateBytes, gatesBytes, partsOf}
 
@@ -49,6 +49,13 @@ header-short h =
       row-short countBytes count-short (countsOf h),
       kept-few h,
     )
+
+latches-short : (ns rs : List ℕ) → length (latchesBytes ns rs) ≤ 42 * length ns
+unfolding digitsOf
+latches-short [] rs = omega arith
+latches-short (n ∷ ns) [] = omega arith
+latches-short (n ∷ ns) (r ∷ rs) =
+    omega (arith, length-append (latchBytes n r) (latchesBytes ns rs), latch-most n r, digits-few 19 n, digits-few 19 r, latches-short ns rs)
 
 roots-short : (h : Header) (sizes roots : List ℕ) → length (rootsBytes h (rootsOf sizes roots)) ≤ 21 * (length sizes + 3 * length roots)
 unfolding rootsBytes
@@ -89,12 +96,12 @@ gates-short t (p ∷ ps) =
     )
 
 -- a file within the limits ends at a place of 64 bits
-pub file-short : (h : Header) (nexts sizes roots : List ℕ) (n : ℕ) (gates : List Pair) → length nexts ≤ limit → length sizes ≤ limit → length roots ≤ limit
-    → length gates ≤ limit → length (partsOf h nexts sizes roots n gates) ≤ last
+pub file-short : (h : Header) (nexts resets sizes roots : List ℕ) (n : ℕ) (gates : List Pair) → length nexts ≤ limit → length sizes ≤ limit → length roots ≤ limit
+    → length gates ≤ limit → length (partsOf h nexts resets sizes roots n gates) ≤ last
 unfolding partsOf
-file-short h nexts sizes roots n gates i j k l =
+file-short h nexts resets sizes roots n gates i j k l =
     let a = headerBytes tag h in
-    let b = linesBytes nexts in
+    let b = latchesBytes nexts resets in
     let c = rootsBytes h (rootsOf sizes roots) in
     let d = gatesBytes (firstCode n) gates in
     omega (
@@ -103,7 +110,7 @@ file-short h nexts sizes roots n gates i j k l =
       length-append b (c ++ d),
       length-append c d,
       header-short h,
-      row-short lineBytes line-short nexts,
+      latches-short nexts resets,
       roots-short h sizes roots,
       gates-short (firstCode n) gates,
     )

@@ -16,9 +16,10 @@ use Rattle.circuit.specs.Outcome.{total, pairsOf}
 use Rattle.circuit.specs.Claims.{AllWithin}
 use Rattle.lines.specs.declared.Header.{Header}
 use Rattle.lines.specs.Sections.{rootsOf}
-use Rattle.sections.specs.Bytes.{rowBytes, lineBytes, linesBytes, countBytes, countsBytes, keptBefore, upToLast, optional, countsOf}
+use Rattle.sections.specs.Bytes.{rowBytes, lineBytes, linesBytes, countBytes, countsBytes, keptBefore, upToLast, optional, countsOf, latchBytes, latchesBytes}
 use Rattle.sections.specs.Bytes.{afterTag, headerBytes, rootsBytes}
-use Rattle.sections.proofs.Parts.{kept-few}
+use Rattle.sections.proofs.Parts.{kept-few, latch-most}
+use Rattle.ordered.proofs.Exactly.{resets-within}
 use Rattle.binary.specs.File.{tag}
 use Rattle.ordered.specs.WellOrdered.{variablesOf}
 use Rattle.ordered.specs.Check.{Words, circuitIn}
@@ -172,8 +173,24 @@ one-of [] i = omega arith
 one-of (v ∷ vs) zero = omega arith
 one-of (v ∷ vs) (suc i) = omega (arith, one-of vs i)
 
--- the whole file, of V variables, R roots and J justice sets
-pub file-most : (w : Words) → Given w → length (fileOf (fileIn w)) ≤ 76 + 8 * (variablesOf (circuitIn w) + length (w .roots) + length (w .sizes))
+-- latch lines, each with two numbers of seven digits at most
+latches-few : (ns rs : List ℕ) → Below ns → Below rs → length (latchesBytes ns rs) ≤ 16 * length ns
+unfolding digitsOf
+latches-few [] rs h i = omega arith
+latches-few (n ∷ ns) [] h i = omega arith
+latches-few (n ∷ ns) (r ∷ rs) h i =
+    omega (
+      arith,
+      length-append (latchBytes n r) (latchesBytes ns rs),
+      latch-most n r,
+      digits-below 6 19 n (h .0),
+      digits-below 6 19 r (i .0),
+      latches-few ns rs (h .1) (i .1),
+    )
+
+-- the whole file, of V variables, L latches, R roots and J justice sets
+pub file-most : (w : Words) → Given w
+    → length (fileOf (fileIn w)) ≤ 76 + 8 * (variablesOf (circuitIn w) + length (w .nexts) + length (w .roots) + length (w .sizes))
 unfolding partsOf firstCode
 file-most w g =
     let f = fileIn w in
@@ -182,7 +199,7 @@ file-most w g =
     let n = sourcesOf (circuitIn w) in
     let gs = pairsOf (w .gates) in
     let a = headerBytes tag h in
-    let b = linesBytes (w .nexts) in
+    let b = latchesBytes (w .nexts) (w .resets) in
     let c = rootsBytes h (rootsOf (w .sizes) (w .roots)) in
     let d = gatesBytes (firstCode n) gs in
     let most : ℕ → Type 0 = λ (i : ℕ). getD (w .counts) i 0 < 10000000 in
@@ -193,6 +210,8 @@ file-most w g =
     let sizes : Below (w .sizes) = below-total (w .sizes) (omega (arith, g .sizes, small 4)) in
     let bound = 2 * variablesOf (circuitIn w) + 1 in
     let nexts : Below (w .nexts) = below-within bound (w .nexts) (omega (arith, o .variables)) (o .nexts) in
+    let resets : Below (w .resets)
+    = below-within bound (w .resets) (omega (arith, o .variables)) (resets-within (circuitIn w) (o .resetCount) (o .resets)) in
     let roots : Below (w .roots) = below-within bound (w .roots) (omega (arith, o .variables)) (o .roots) in
     omega (
       arith,
@@ -200,7 +219,7 @@ file-most w g =
       length-append b (c ++ d),
       length-append c d,
       header-few h counts,
-      row-few lineBytes line-few (w .nexts) nexts,
+      latches-few (w .nexts) (w .resets) nexts resets,
       roots-few h (w .sizes) (w .roots) sizes roots,
       gates-few (firstCode n) gs (o .gates) (omega (arith, o .variables)),
     )

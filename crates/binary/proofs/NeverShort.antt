@@ -11,6 +11,7 @@ use Rattle.token.specs.Answer.{pairAt}
 use Rattle.token.specs.declared.PairToken.{PairToken}
 use Rattle.token.specs.declared.PairToken.the-variants.{Inputs, PairRefused}
 use Rattle.circuit.specs.Walk.{firstCode}
+use Rattle.circuit.specs.Ordered.{firstLatch}
 use Rattle.lines.specs.declared.Fault.the-variants.{Number, Above}
 use Rattle.lines.specs.declared.Header.{Header}
 use Rattle.lines.specs.Reading.{got, no, _▸_}
@@ -40,6 +41,7 @@ module _ (s : List ℕ) (room : Room) (ample : Ample room) where
   never-sized h at w =
       rw (
         le-ltb (room .nexts) (h .latches) (omega (arith, ample .nexts, w .defined, w .top)),
+        le-ltb (room .resets) (h .latches) (omega (arith, ample .resets, w .defined, w .top)),
         le-ltb (room .gates) (2 * h .gates) (omega (arith, ample .gates, w .defined, w .top)),
         le-ltb (room .sizes) (h .justice) (omega (arith, ample .sizes, w .justice)),
       ) (go (ltb (h .inputs + h .latches + h .gates) (h .top)))
@@ -51,10 +53,10 @@ module _ (s : List ℕ) (room : Room) (ample : Ample room) where
   never-lists : (h : Header) (at : ℕ) → Never (listsAt s (room .roots) h at)
   unfolding listsAt
   never-lists h at =
-      never-then (latchesAt s (topCode h) (h .latches) at)
+      never-then (latchesAt s (topCode h) (firstLatch (h .inputs)) (h .latches) at)
       (λ ns at₁. rootsAt s h (topCode h) (room .roots) at₁ ▸ λ p at₂. gatesAt s (h .inputs + h .latches) (h .gates) at₂ ▸ λ gs at₃. got
       (fileWith h ns p gs) at₃)
-      (never-latches s (topCode h) (h .latches) at)
+      (never-latches s (topCode h) (firstLatch (h .inputs)) (h .latches) at)
       (λ ns at₁ _. never-then (rootsAt s h (topCode h) (room .roots) at₁)
       (λ p at₂. gatesAt s (h .inputs + h .latches) (h .gates) at₂ ▸ λ gs at₃. got (fileWith h ns p gs) at₃)
       (never-roots s h (topCode h) (room .roots) (ample .roots) at₁)

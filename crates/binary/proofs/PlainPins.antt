@@ -9,9 +9,9 @@ use Rattle.token.specs.Format.{digitsOf, shortest}
 use Rattle.token.specs.Answer.{digitsAt, uintAt, goOnAt, binaryAt, deltaAt, headerFieldAt, pairAt}
 use Rattle.circuit.specs.Walk.{Pair, firstCode}
 use Rattle.lines.specs.Reading.{got}
-use Rattle.lines.specs.Lines.{isByte, byteAt, tagAt, numberAt, lineAt, linesAt, resetAt, latchAt, latchesAt}
+use Rattle.lines.specs.Lines.{isByte, byteAt, tagAt, numberAt, lineAt, linesAt, resetLineAt, resetAt, latchAt, latchesAt}
 use Rattle.lines.specs.Sections.{countAt, othersAt, countsAt, headerAt, rootRoomAt, propertiesAt, sizesAt, rootsAt}
-use Rattle.sections.specs.Bytes.{lineBytes, countBytes, afterTag, rootsBytes}
+use Rattle.sections.specs.Bytes.{lineBytes, countBytes, resetBytes, latchBytes, afterTag, rootsBytes}
 use Rattle.binary.specs.File.{File, Room, gateAt, gatesAt, sizedAt, listsAt, bodyAt, readFile}
 use Rattle.binary.specs.Spelling.{Gate, Spells}
 use Rattle.binary.specs.Write.{partsOf}
@@ -20,7 +20,7 @@ use Rattle.binary.specs.Plain.{Fewest, ShortestGate, ShortestGates, Plai
 use Rattle.binary.proofs.Written.{read-sound}
 use Rattle.binary.proofs.Same.{plain-exactly}
 use Rattle.binary.proofs.Pins.{pair, room, file, small, smallFile}
-use Rattle.binary.proofs.WritePins.{bare, none, smallBytes}
+use Rattle.binary.proofs.WritePins.{bare, none, latched, latchedBytes}
 
 -- 1. What can be written.
 
@@ -31,20 +31,22 @@ pub sound-pinned :
     × (Sound (bare (0 ∷ 0 ∷ 0 ∷ 0 ∷ 0 ∷ 0 ∷ []) [] []) → ⊥)
     × (Sound (bare none [] (1 ∷ [])) → ⊥)
     -- lists that are just long enough, and each a cell too short
-    × Holds (room 1 6 2 8) smallFile
-    × (Holds (room 0 9 9 9) smallFile → ⊥)
-    × (Holds (room 9 5 9 9) smallFile → ⊥)
-    × (Holds (room 9 9 1 9) smallFile → ⊥)
-    × (Holds (room 9 9 9 7) smallFile → ⊥)
-unfolding digitsOf digitsAt uintAt goOnAt binaryAt deltaAt headerFieldAt pairAt firstCode isByte byteAt tagAt numberAt lineAt linesAt resetAt latchAt
+    × Holds (room 1 1 6 2 8) smallFile
+    × (Holds (room 0 9 9 9 9) smallFile → ⊥)
+    × (Holds (room 9 0 9 9 9) smallFile → ⊥)
+    × (Holds (room 9 9 5 9 9) smallFile → ⊥)
+    × (Holds (room 9 9 9 1 9) smallFile → ⊥)
+    × (Holds (room 9 9 9 9 7) smallFile → ⊥)
+unfolding digitsOf digitsAt uintAt goOnAt binaryAt deltaAt headerFieldAt pairAt firstCode isByte byteAt tagAt numberAt lineAt linesAt resetLineAt resetAt latchAt
     latchesAt countAt othersAt countsAt headerAt rootRoomAt propertiesAt sizesAt rootsAt gateAt gatesAt sizedAt listsAt bodyAt readFile
 sound-pinned = (
-  read-sound small (room 1 6 2 8) smallFile 55 refl,
+  read-sound small (room 1 1 6 2 8) smallFile 55 refl,
   λ k. omega (arith, k .five),
   λ k. omega (arith, k .five),
   λ k. omega (arith, k .sizes),
-  record { nexts = omega arith; gates = omega arith; sizes = omega arith; roots = omega arith },
+  record { nexts = omega arith; resets = omega arith; gates = omega arith; sizes = omega arith; roots = omega arith },
   λ k. omega (arith, k .nexts),
+  λ k. omega (arith, k .resets),
   λ k. omega (arith, k .gates),
   λ k. omega (arith, k .sizes),
   λ k. omega (arith, k .roots),
@@ -79,7 +81,7 @@ shortest-pinned p q x y t u = (
 )
 
 abbrev smallRoom : Room
-smallRoom = room 1 6 2 8
+smallRoom = room 1 1 6 2 8
 
 -- aig 0 0 0 0 0 0\n
 abbrev zeroCount : List ℕ
@@ -87,7 +89,7 @@ zeroCount = (97 ∷ 105 ∷ 103 ∷ 32 ∷ 48 ∷ 32 ∷ 48 ∷ 32 ∷ 48 ∷ 32
 
 -- aig 3 2 0 0 1\n and 6(4,4), the second delta by `80 00`, and by `00`
 abbrev gateFile : File
-gateFile = file 2 [] (pair 4 4 ∷ []) none [] []
+gateFile = file 2 [] [] (pair 4 4 ∷ []) none [] []
 
 abbrev longDelta : List ℕ
 longDelta = (97 ∷ 105 ∷ 103 ∷ 32 ∷ 51 ∷ 32 ∷ 50 ∷ 32 ∷ 48 ∷ 32 ∷ 48 ∷ 32 ∷ 49 ∷ 10 ∷ 2 ∷ 128 ∷ 0 ∷ [])
@@ -95,17 +97,37 @@ longDelta = (97 ∷ 105 ∷ 103 ∷ 32 ∷ 51 ∷ 32 ∷ 50 ∷ 32 ∷ 48 ∷ 32
 abbrev shortDelta : List ℕ
 shortDelta = (97 ∷ 105 ∷ 103 ∷ 32 ∷ 51 ∷ 32 ∷ 50 ∷ 32 ∷ 48 ∷ 32 ∷ 48 ∷ 32 ∷ 49 ∷ 10 ∷ 2 ∷ 0 ∷ [])
 
--- whatever spelling is seen in the bytes: a reset field, an optional count 0 at the end, and a delta `80 00` are not plain; ours is
+-- aig 2 1 1 0 0\n2 0\n, and with nothing, a 1 and a 4 in the place of the 0
+abbrev zeroReset : List ℕ
+zeroReset = latchedBytes (50 ∷ 32 ∷ 48 ∷ 10 ∷ [])
+
+abbrev noReset : List ℕ
+noReset = latchedBytes (50 ∷ 10 ∷ [])
+
+abbrev oneReset : List ℕ
+oneReset = latchedBytes (50 ∷ 32 ∷ 49 ∷ 10 ∷ [])
+
+abbrev ownReset : List ℕ
+ownReset = latchedBytes (50 ∷ 32 ∷ 52 ∷ 10 ∷ [])
+
+-- whatever spelling is seen in the bytes: a reset field with 0, an optional count 0 at the end, and a delta `80 00` are not plain; ours is, and so are the reset
+-- fields 1 and the latch's own literal
 pub plain-pinned :
-    ((t : Spells smallRoom smallFile small) → Plain smallRoom smallFile small t → ⊥)
-    × ((t : Spells smallRoom smallFile smallBytes) → Plain smallRoom smallFile smallBytes t)
+    ((t : Spells smallRoom (latched 0) zeroReset) → Plain smallRoom (latched 0) zeroReset t → ⊥)
+    × ((t : Spells smallRoom (latched 0) noReset) → Plain smallRoom (latched 0) noReset t)
+    × ((t : Spells smallRoom (latched 1) oneReset) → Plain smallRoom (latched 1) oneReset t)
+    × ((t : Spells smallRoom (latched 4) ownReset) → Plain smallRoom (latched 4) ownReset t)
+    × ((t : Spells smallRoom smallFile small) → Plain smallRoom smallFile small t)
     × ((t : Spells smallRoom (bare none [] []) zeroCount) → Plain smallRoom (bare none [] []) zeroCount t → ⊥)
     × ((t : Spells smallRoom gateFile longDelta) → Plain smallRoom gateFile longDelta t → ⊥)
     × ((t : Spells smallRoom gateFile shortDelta) → Plain smallRoom gateFile shortDelta t)
-unfolding digitsOf lineBytes countBytes afterTag rootsBytes firstCode shortest partsOf
+unfolding digitsOf lineBytes countBytes resetBytes latchBytes afterTag rootsBytes firstCode shortest partsOf
 plain-pinned = (
-  λ t p. let e : _≡_ {A = ℕ} 55 53 = ap length (plain-exactly smallRoom smallFile small t .1 p) in omega arith,
-  λ t. plain-exactly smallRoom smallFile smallBytes t .0 refl,
+  λ t p. let e : _≡_ {A = ℕ} 18 16 = ap length (plain-exactly smallRoom (latched 0) zeroReset t .1 p) in omega arith,
+  λ t. plain-exactly smallRoom (latched 0) noReset t .0 refl,
+  λ t. plain-exactly smallRoom (latched 1) oneReset t .0 refl,
+  λ t. plain-exactly smallRoom (latched 4) ownReset t .0 refl,
+  λ t. plain-exactly smallRoom smallFile small t .0 refl,
   λ t p. let e : _≡_ {A = ℕ} 16 14 = ap length (plain-exactly smallRoom (bare none [] []) zeroCount t .1 p) in omega arith,
   λ t p. let e : _≡_ {A = ℕ} 17 16 = ap length (plain-exactly smallRoom gateFile longDelta t .1 p) in omega arith,
   λ t. plain-exactly smallRoom gateFile shortDelta t .0 refl,
@@ -114,8 +136,12 @@ plain-pinned = (
 -- there are such spellings: these bytes are read
 pub plain-read-pinned :
     (readFile zeroCount smallRoom ≡ got (bare none [] []) 16)
+    × (readFile zeroReset smallRoom ≡ got (latched 0) 18)
+    × (readFile noReset smallRoom ≡ got (latched 0) 16)
+    × (readFile oneReset smallRoom ≡ got (latched 1) 18)
+    × (readFile ownReset smallRoom ≡ got (latched 4) 18)
     × (readFile longDelta smallRoom ≡ got gateFile 17)
     × (readFile shortDelta smallRoom ≡ got gateFile 16)
-unfolding digitsOf digitsAt uintAt goOnAt binaryAt deltaAt headerFieldAt pairAt firstCode isByte byteAt tagAt numberAt lineAt linesAt resetAt latchAt
+unfolding digitsOf digitsAt uintAt goOnAt binaryAt deltaAt headerFieldAt pairAt firstCode isByte byteAt tagAt numberAt lineAt linesAt resetLineAt resetAt latchAt
     latchesAt countAt othersAt countsAt headerAt rootRoomAt propertiesAt sizesAt rootsAt gateAt gatesAt sizedAt listsAt bodyAt readFile
-plain-read-pinned = (refl, refl, refl)
+plain-read-pinned = (refl, refl, refl, refl, refl, refl, refl)

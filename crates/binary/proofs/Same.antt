@@ -7,7 +7,7 @@ use mathlib.Core.Logic.{_↔_}
 use mathlib.Core.List.{List, [], _∷_, _++_, append-nil}
 use native.Mathlib.Omega.{arith}
 use lib.Dec.{ltb}
-use lib.ListN.{length, take, length-append}
+use lib.ListN.{length, take, length-append, length-map}
 use lib.Seq.{take-all, take-length, length-take-le}
 use borrow.Author.Tests.{ltb-true, ltb-false}
 use Rattle.token.specs.Format.{Bytes, Grouped, final, group, shortest}
@@ -16,18 +16,20 @@ use Rattle.token.specs.declared.Token.the-variants.{Value}
 use Rattle.token.specs.declared.PairToken.the-variants.{Inputs}
 use Rattle.token.proofs.Theorems.{grouped-reads, shortest-is-least, shortest-is-only, delta-from-reference, pair-exactly}
 use Rattle.circuit.specs.Walk.{Pair, firstCode}
+use Rattle.circuit.specs.Ordered.{firstLatch}
 use Rattle.lines.specs.declared.Header.{Header}
 use Rattle.lines.specs.Reading.{got}
+use Rattle.lines.specs.Lines.{LatchLine, nextsOf, resetsOf}
 use Rattle.lines.specs.Sections.{Roots, topCode, headerOf}
 use Rattle.lines.specs.Spelling.{Row, HeaderCounts, Rooting}
-use Rattle.sections.specs.Bytes.{linesBytes, upToLast, afterTag, rootsBytes}
+use Rattle.sections.specs.Bytes.{latchesBytes, upToLast, afterTag, rootsBytes}
 use Rattle.sections.specs.Claims.{Least, spelledOptions}
 use Rattle.sections.proofs.Ours.{Told, same, longer, told-least, told-exactly, told-both, told-of}
 use Rattle.sections.proofs.Theorems.{latches-least, latches-exactly, header-least, header-exactly, roots-only}
 use Rattle.binary.specs.File.{File, Room, tag, fileWith, readFile}
 use Rattle.binary.specs.Spelling.{Delta, Gate, Listed, Body, Spells}
 use Rattle.binary.specs.Write.{headerFor, gateBytes, gatesBytes, partsOf, fileOf}
-use Rattle.binary.specs.Plain.{Fewest, ShortestGate, ShortestGates, ResetFree, ShortestDeltas, Plain}
+use Rattle.binary.specs.Plain.{Fewest, ShortestGate, ShortestGates, ResetsPlain, ShortestDeltas, Plain}
 use Rattle.binary.proofs.Reading.{exactly-spelled}
 
 -- ours, or longer
@@ -126,13 +128,13 @@ sets-counted h most room r w t =
     let sizes = rest .first in
     ap (λ (p : Roots). length (p .sizes)) (rest .second .0) ∙ ap (λ (p : Roots). length (p .sizes)) (sizes .second .second .0) ∙ sizes .first .0
 
-file-parts : (h : Header) (nexts : List ℕ) (r : Roots) (gates : List Pair) → length nexts ≡ h .latches → headerFor (fileWith h nexts r gates) ≡ h
-    → fileOf (fileWith h nexts r gates)
-    ≡ tag ++ (afterTag h ++ (linesBytes nexts ++ (rootsBytes h r ++ gatesBytes (firstCode (h .inputs + h .latches)) gates)))
+file-parts : (h : Header) (ls : List LatchLine) (r : Roots) (gates : List Pair) → length (nextsOf ls) ≡ h .latches → headerFor (fileWith h ls r gates) ≡ h
+    → fileOf (fileWith h ls r gates)
+    ≡ tag ++ (afterTag h ++ (latchesBytes (nextsOf ls) (resetsOf ls) ++ (rootsBytes h r ++ gatesBytes (firstCode (h .inputs + h .latches)) gates)))
 unfolding partsOf
-file-parts h nexts r gates e k =
-    ap (λ (x : Header). partsOf x nexts (r .sizes) (r .roots) (h .inputs + length nexts) gates) k
-    ∙ ap (λ (n : ℕ). partsOf h nexts (r .sizes) (r .roots) (h .inputs + n) gates) e
+file-parts h ls r gates e k =
+    ap (λ (x : Header). partsOf x (nextsOf ls) (resetsOf ls) (r .sizes) (r .roots) (h .inputs + length (nextsOf ls)) gates) k
+    ∙ ap (λ (n : ℕ). partsOf h (nextsOf ls) (resetsOf ls) (r .sizes) (r .roots) (h .inputs + n) gates) e
 
 -- the whole file
 
@@ -143,8 +145,11 @@ module _ (room : Room) (f : File) (v : List ℕ) (t : Body room f v) where
   abbrev lists : Listed room h f (t .second .back)
   lists = t .second .second
 
-  abbrev nexts : List ℕ
-  nexts = lists .middle
+  abbrev latchLines : List LatchLine
+  latchLines = lists .middle
+
+  abbrev ourLatches : List ℕ
+  ourLatches = latchesBytes (nextsOf latchLines) (resetsOf latchLines)
 
   abbrev roots : Roots
   roots = lists .second .middle
@@ -152,20 +157,20 @@ module _ (room : Room) (f : File) (v : List ℕ) (t : Body room f v) where
   abbrev gates : List Pair
   gates = lists .second .second .middle
 
-  its-latches : length nexts ≡ h .latches
-  its-latches = lists .first .0
+  its-latches : length (nextsOf latchLines) ≡ h .latches
+  its-latches = length-map latchLines (λ l. l .next) ∙ lists .first .0
 
   its-gates : length gates ≡ h .gates
   its-gates = lists .second .second .first .0
 
-  its-header : headerFor (fileWith h nexts roots gates) ≡ h
+  its-header : headerFor (fileWith h latchLines roots gates) ≡ h
   its-header =
-      let top : h .inputs + length nexts + length gates ≡ h .top =
+      let top : h .inputs + length (nextsOf latchLines) + length gates ≡ h .top =
       omega (arith, counts-within h (t .front) (t .first), t .second .first .0, its-latches, its-gates) in
       header-by h top its-latches its-gates (sets-counted h (topCode h) (room .roots) roots (lists .second .front) (lists .second .first))
 
-  ours : fileOf f ≡ tag ++ (afterTag h ++ (linesBytes nexts ++ (rootsBytes h roots ++ gatesBytes (firstCode (h .inputs + h .latches)) gates)))
-  ours = ap fileOf (lists .second .second .second .0) ∙ file-parts h nexts roots gates its-latches its-header
+  ours : fileOf f ≡ tag ++ (afterTag h ++ (ourLatches ++ (rootsBytes h roots ++ gatesBytes (firstCode (h .inputs + h .latches)) gates)))
+  ours = ap fileOf (lists .second .second .second .0) ∙ file-parts h latchLines roots gates its-latches its-header
 
   -- nothing stands between the header and the latch lines, or behind the gates
   theirs : v ≡ t .front ++ (lists .front ++ (rootsBytes h roots ++ lists .second .second .front))
@@ -184,15 +189,16 @@ module _ (room : Room) (f : File) (v : List ℕ) (t : Body room f v) where
   OptionsPlain = upToLast (spelledOptions h (t .front) (t .first)) ≡ spelledOptions h (t .front) (t .first)
 
   abbrev AllPlain : Type 0
-  AllPlain = OptionsPlain × (ResetFree room h f (t .second .back) lists × ShortestDeltas room h f (t .second .back) lists)
+  AllPlain = OptionsPlain × (ResetsPlain room h f (t .second .back) lists × ShortestDeltas room h f (t .second .back) lists)
 
   parts-told : Told AllPlain (fileOf f) (tag ++ v)
   parts-told =
       let header : Told OptionsPlain (afterTag h) (t .front) =
       told-by (afterTag h) (t .front) (header-least h (t .front) (t .first)) (header-exactly h (t .front) (t .first)) in
-      let latches : Told (ResetFree room h f (t .second .back) lists) (linesBytes nexts) (lists .front) =
-      told-by (linesBytes nexts) (lists .front) (latches-least (topCode h) (h .latches) nexts (lists .front) (lists .first))
-      (latches-exactly (topCode h) (h .latches) nexts (lists .front) (lists .first)) in
+      let latches : Told (ResetsPlain room h f (t .second .back) lists) ourLatches (lists .front) =
+      told-by ourLatches (lists .front)
+      (latches-least (topCode h) (firstLatch (h .inputs)) (h .latches) latchLines (lists .front) (lists .first))
+      (latches-exactly (topCode h) (firstLatch (h .inputs)) (h .latches) latchLines (lists .front) (lists .first)) in
       let deltas : Told (ShortestDeltas room h f (t .second .back) lists) (gatesBytes (firstCode (h .inputs + h .latches)) gates)
       (lists .second .second .front) =
       gates-told (h .inputs + h .latches) 0 (firstCode (h .inputs + h .latches)) gates (lists .second .second .front) (lists .second .second .first .1)

@@ -43,6 +43,9 @@ module _ (bytes : List ℕ) (f : File) (used : ℕ) (g : Lending) (known : Known
         inputs = refl;
         states = refl;
         nexts = onto-take (f .ordered .nexts) (g .file .nexts) (length (f .ordered .nexts)) refl (known .nexts-fit);
+        resets =
+            onto-take (f .ordered .resets) (g .file .resets) (length (f .ordered .nexts)) (sym (known .wellOrdered .resetCount))
+            (omega (arith, known .wellOrdered .resetCount, known .resets-fit));
         gates = refl;
         roots = onto-take (f .ordered .roots) (g .file .roots) (total (f .ordered .counts)) (sym counts) (omega (arith, counts, known .roots-fit));
       }
@@ -62,7 +65,7 @@ module _ (bytes : List ℕ) (f : File) (used : ℕ) (g : Lending) (known : Known
   roomy : Roomy l (circuitOf l)
   roomy =
       ordered.long-enough (f .ordered) (known .wellOrdered) (g .trim) (g .hash) (g .fold) (g .codes) x expands filled l lends
-      (enough .map) (enough .nexts) (omega (arith, counts, enough .roots)) (enough .gates) (enough .scratch)
+      (enough .map) (enough .nexts) (enough .resets) (omega (arith, counts, enough .roots)) (enough .gates) (enough .scratch)
 
   arrives : Arrives (f .ordered) l
   arrives =

@@ -9,22 +9,22 @@ use Rattle.token.specs.Answer.{digitsAt, uintAt, goOnAt, binaryAt, deltaAt, hea
 use Rattle.lit.specs.Code.{literal}
 use Rattle.circuit.specs.Walk.{firstCode}
 use Rattle.lines.specs.Reading.{got}
-use Rattle.lines.specs.Lines.{isByte, byteAt, tagAt, numberAt, lineAt, linesAt, resetAt, latchAt, latchesAt}
+use Rattle.lines.specs.Lines.{isByte, byteAt, tagAt, numberAt, lineAt, linesAt, resetLineAt, resetAt, latchAt, latchesAt}
 use Rattle.lines.specs.Sections.{countAt, othersAt, countsAt, headerAt, rootRoomAt, propertiesAt, sizesAt, rootsAt}
-use Rattle.sections.specs.Bytes.{lineBytes, countBytes, afterTag, rootsBytes}
-use Rattle.ordered.specs.declared.given.Fault.the-variants.{TooBig, Misshapen, Over, Disordered, Short}
+use Rattle.sections.specs.Bytes.{lineBytes, countBytes, resetBytes, latchBytes, afterTag, rootsBytes}
+use Rattle.ordered.specs.declared.given.Fault.the-variants.{TooBig, Misshapen, Over, Reset, Disordered, Short}
 use Rattle.ordered.specs.declared.given.Checked.the-variants.{Fits, Faulty}
 use Rattle.ordered.specs.Check.{Words, tooLarge, uneven, checked}
 use Rattle.binary.specs.declared.FileWritten.the-variants.{Written, Unwritten}
 use Rattle.binary.specs.File.{File, gateAt, gatesAt, sizedAt, listsAt, bodyAt, readFile}
 use Rattle.binary.specs.Write.{headerWith, headerFor, gateBytes, gatesBytes, partsOf, fileOf, fileIn, wrote, writtenTo, writtenAs, writing}
-use Rattle.binary.proofs.Pins.{pair, room, file, smallFile, rootlessFile}
+use Rattle.binary.proofs.Pins.{pair, room, file, small, smallFile, rootless, rootlessFile}
 
 -- 1. Whole files.
 
 -- no variable; the counts O B C F and the justice literals, roots and sizes
 abbrev pub bare : List ℕ → List ℕ → List ℕ → File
-bare counts roots sizes = file 0 [] [] counts roots sizes
+bare counts roots sizes = file 0 [] [] [] counts roots sizes
 
 abbrev pub none : List ℕ
 none = 0 ∷ 0 ∷ 0 ∷ 0 ∷ 0 ∷ []
@@ -33,14 +33,13 @@ none = 0 ∷ 0 ∷ 0 ∷ 0 ∷ 0 ∷ []
 abbrev empty : List ℕ
 empty = (97 ∷ 105 ∷ 103 ∷ 32 ∷ 48 ∷ 32 ∷ 48 ∷ 32 ∷ 48 ∷ 32 ∷ 48 ∷ 32 ∷ 48 ∷ 10 ∷ [])
 
--- the small file and the one without roots, their resets dropped
-abbrev pub smallBytes : List ℕ
-smallBytes =
-    (97 ∷ 105 ∷ 103 ∷ 32 ∷ 54 ∷ 32 ∷ 50 ∷ 32 ∷ 49 ∷ 32 ∷ 50 ∷ 32 ∷ 51 ∷ 32 ∷ 49 ∷ 32 ∷ 49 ∷ 32 ∷ 50 ∷ 32 ∷ 49 ∷ 10 ∷ 56 ∷ 10 ∷ 49 ∷ 50 ∷ 10 ∷ 49 ∷ 51 ∷ 10 ∷
-    57 ∷ 10 ∷ 51 ∷ 10 ∷ 50 ∷ 10 ∷ 49 ∷ 10 ∷ 54 ∷ 10 ∷ 49 ∷ 49 ∷ 10 ∷ 53 ∷ 10 ∷ 55 ∷ 10 ∷ 2 ∷ 4 ∷ 2 ∷ 5 ∷ 2 ∷ 1 ∷ [])
+-- one input and one latch, 4, with the next state 2 and this reset; and its bytes: 0 is not written, 1 and the latch's own literal are
+abbrev pub latched : ℕ → File
+latched reset = file 1 (2 ∷ []) (reset ∷ []) [] none [] []
 
-abbrev rootlessBytes : List ℕ
-rootlessBytes = (97 ∷ 105 ∷ 103 ∷ 32 ∷ 54 ∷ 32 ∷ 49 ∷ 32 ∷ 50 ∷ 32 ∷ 48 ∷ 32 ∷ 51 ∷ 10 ∷ 56 ∷ 10 ∷ 53 ∷ 10 ∷ 2 ∷ 4 ∷ 2 ∷ 5 ∷ 2 ∷ 1 ∷ [])
+-- aig 2 1 1 0 0\n and the line
+abbrev pub latchedBytes : List ℕ → List ℕ
+latchedBytes line = (97 ∷ 105 ∷ 103 ∷ 32 ∷ 50 ∷ 32 ∷ 49 ∷ 32 ∷ 49 ∷ 32 ∷ 48 ∷ 32 ∷ 48 ∷ 10 ∷ line)
 
 pub files-pinned :
     -- M is computed; each count of the row has its place
@@ -52,8 +51,11 @@ pub files-pinned :
     -- L, A and J are counted
     × (headerFor smallFile
     ≡ record { top = 6; inputs = 2; latches = 1; outputs = 2; gates = 3; bad = 1; constraints = 1; justice = 2; fairness = 1 })
-    × (fileOf smallFile ≡ smallBytes)
-    × (fileOf rootlessFile ≡ rootlessBytes)
+    × (fileOf smallFile ≡ small)
+    × (fileOf rootlessFile ≡ rootless)
+    × (fileOf (latched 0) ≡ latchedBytes (50 ∷ 10 ∷ []))
+    × (fileOf (latched 1) ≡ latchedBytes (50 ∷ 32 ∷ 49 ∷ 10 ∷ []))
+    × (fileOf (latched 4) ≡ latchedBytes (50 ∷ 32 ∷ 52 ∷ 10 ∷ []))
     × (fileOf (bare none [] []) ≡ empty)
     -- one optional count, and so the ones before it: B, C, J with a set of size 0, F
     × (fileOf (bare (0 ∷ 1 ∷ 0 ∷ 0 ∷ 0 ∷ []) (1 ∷ []) []) ≡ (97 ∷ 105 ∷ 103 ∷ 32 ∷ 48 ∷ 32 ∷ 48 ∷ 32 ∷ 48 ∷ 32 ∷ 48 ∷ 32 ∷ 48 ∷ 32 ∷ 49 ∷ 10 ∷ 49 ∷ 10 ∷ []))
@@ -62,14 +64,14 @@ pub files-pinned :
     × (fileOf (bare none [] (0 ∷ [])) ≡ (97 ∷ 105 ∷ 103 ∷ 32 ∷ 48 ∷ 32 ∷ 48 ∷ 32 ∷ 48 ∷ 32 ∷ 48 ∷ 32 ∷ 48 ∷ 32 ∷ 48 ∷ 32 ∷ 48 ∷ 32 ∷ 49 ∷ 10 ∷ 48 ∷ 10 ∷ []))
     × (fileOf (bare (0 ∷ 0 ∷ 0 ∷ 1 ∷ 0 ∷ []) (1 ∷ []) []) ≡ (97 ∷ 105 ∷ 103 ∷ 32 ∷ 48 ∷ 32 ∷ 48 ∷ 32 ∷ 48 ∷ 32 ∷ 48 ∷ 32 ∷ 48 ∷ 32 ∷ 48 ∷ 32 ∷ 48 ∷ 32 ∷
     48 ∷ 32 ∷ 49 ∷ 10 ∷ 49 ∷ 10 ∷ []))
-unfolding digitsOf lineBytes countBytes afterTag rootsBytes firstCode shortest partsOf
-files-pinned = (refl, refl, refl, refl, refl, refl, refl, refl, refl, refl)
+unfolding digitsOf lineBytes countBytes resetBytes latchBytes afterTag rootsBytes firstCode shortest partsOf
+files-pinned = (refl, refl, refl, refl, refl, refl, refl, refl, refl, refl, refl, refl, refl)
 
 -- what is written is read, whatever follows
 pub back-pinned :
-    (readFile (smallBytes ++ (7 ∷ [])) (room 1 6 2 8) ≡ got smallFile 53)
-    × (readFile empty (room 0 0 0 0) ≡ got (bare none [] []) 14)
-unfolding digitsOf digitsAt uintAt goOnAt binaryAt deltaAt headerFieldAt pairAt firstCode isByte byteAt tagAt numberAt lineAt linesAt resetAt latchAt
+    (readFile (small ++ (7 ∷ [])) (room 1 1 6 2 8) ≡ got smallFile 55)
+    × (readFile empty (room 0 0 0 0 0) ≡ got (bare none [] []) 14)
+unfolding digitsOf digitsAt uintAt goOnAt binaryAt deltaAt headerFieldAt pairAt firstCode isByte byteAt tagAt numberAt lineAt linesAt resetLineAt resetAt latchAt
     latchesAt countAt othersAt countsAt headerAt rootRoomAt propertiesAt sizesAt rootsAt gateAt gatesAt sizedAt listsAt bodyAt readFile
 back-pinned = (refl, refl)
 
@@ -91,13 +93,14 @@ gates-pinned = (refl, refl, refl, refl, refl, refl, refl, refl, refl, refl)
 
 -- 3. Answers, and the lent bytes afterwards.
 
--- inputs, counts, next states, gates, sizes, roots
-abbrev words : ℕ → List ℕ → List ℕ → List ℕ → List ℕ → List ℕ → Words
-words inputs counts nexts gates sizes roots = record { inputs = inputs; counts = counts; nexts = nexts; gates = gates; sizes = sizes; roots = roots }
+-- inputs, counts, next states, resets, gates, sizes, roots
+abbrev words : ℕ → List ℕ → List ℕ → List ℕ → List ℕ → List ℕ → List ℕ → Words
+words inputs counts nexts resets gates sizes roots =
+    record { inputs = inputs; counts = counts; nexts = nexts; resets = resets; gates = gates; sizes = sizes; roots = roots }
 
 -- the small file as it is lent
 abbrev smallWords : Words
-smallWords = words 2 (2 ∷ 1 ∷ 1 ∷ 1 ∷ 3 ∷ []) (8 ∷ []) (6 ∷ 2 ∷ 8 ∷ 3 ∷ 10 ∷ 9 ∷ []) (2 ∷ 1 ∷ []) (12 ∷ 13 ∷ 9 ∷ 3 ∷ 7 ∷ 6 ∷ 11 ∷ 5 ∷ [])
+smallWords = words 2 (2 ∷ 1 ∷ 1 ∷ 1 ∷ 3 ∷ []) (8 ∷ []) (1 ∷ []) (6 ∷ 2 ∷ 8 ∷ 3 ∷ 10 ∷ 9 ∷ []) (2 ∷ 1 ∷ []) (12 ∷ 13 ∷ 9 ∷ 3 ∷ 7 ∷ 6 ∷ 11 ∷ 5 ∷ [])
 
 pub answers-pinned :
     (fileIn smallWords ≡ smallFile)
@@ -112,17 +115,20 @@ answers-pinned = (refl, refl, refl, refl, refl, refl, refl)
 
 pub writing-pinned :
     -- the small file, with three bytes behind it; one byte short; the empty circuit into just as many
-    (writing smallWords (replicate 53 99 ++ (1 ∷ 2 ∷ 3 ∷ [])) ≡ wrote (Written 53) (smallBytes ++ (1 ∷ 2 ∷ 3 ∷ [])))
-    × (writing smallWords (replicate 52 99) ≡ wrote (Unwritten Short 53) (replicate 52 99))
-    × (writing (words 0 none [] [] [] []) (replicate 14 99) ≡ wrote (Written 14) empty)
-    × (writing (words 0 none [] [] [] []) [] ≡ wrote (Unwritten Short 14) [])
+    (writing smallWords (replicate 55 99 ++ (1 ∷ 2 ∷ 3 ∷ [])) ≡ wrote (Written 55) (small ++ (1 ∷ 2 ∷ 3 ∷ [])))
+    × (writing smallWords (replicate 54 99) ≡ wrote (Unwritten Short 55) (replicate 54 99))
+    × (writing (words 0 none [] [] [] [] []) (replicate 14 99) ≡ wrote (Written 14) empty)
+    × (writing (words 0 none [] [] [] [] []) [] ≡ wrote (Unwritten Short 14) [])
+    -- 22, by the latch's literal negated; 2 for a reset that is missing
+    × (writing (words 1 none (2 ∷ []) (5 ∷ []) [] [] []) (7 ∷ 8 ∷ []) ≡ wrote (Unwritten (Reset (literal 5)) 0) (7 ∷ 8 ∷ []))
+    × (writing (words 1 none (2 ∷ []) [] [] [] []) (7 ∷ 8 ∷ []) ≡ wrote (Unwritten Misshapen 0) (7 ∷ 8 ∷ []))
     -- 1; 2 for counts, for sizes and for a word that is left over; 4; 23, by the first input and by the second
-    × (writing (words 1048576 none [] [] [] []) (7 ∷ 8 ∷ []) ≡ wrote (Unwritten TooBig 0) (7 ∷ 8 ∷ []))
-    × (writing (words 0 none [] [] [] (0 ∷ [])) (7 ∷ 8 ∷ []) ≡ wrote (Unwritten Misshapen 0) (7 ∷ 8 ∷ []))
-    × (writing (words 0 none [] [] (1 ∷ []) []) (7 ∷ 8 ∷ []) ≡ wrote (Unwritten Misshapen 0) (7 ∷ 8 ∷ []))
-    × (writing (words 1 none [] (2 ∷ []) [] []) (7 ∷ 8 ∷ []) ≡ wrote (Unwritten Misshapen 0) (7 ∷ 8 ∷ []))
-    × (writing (words 1 (1 ∷ 0 ∷ 0 ∷ 0 ∷ 0 ∷ []) [] [] [] (4 ∷ [])) (7 ∷ 8 ∷ []) ≡ wrote (Unwritten (Over (literal 4)) 0) (7 ∷ 8 ∷ []))
-    × (writing (words 1 none [] (4 ∷ 2 ∷ []) [] []) (7 ∷ 8 ∷ []) ≡ wrote (Unwritten (Disordered (literal 4)) 0) (7 ∷ 8 ∷ []))
-    × (writing (words 1 none [] (2 ∷ 3 ∷ []) [] []) (7 ∷ 8 ∷ []) ≡ wrote (Unwritten (Disordered (literal 4)) 0) (7 ∷ 8 ∷ []))
-unfolding digitsOf lineBytes countBytes afterTag rootsBytes firstCode shortest partsOf checked tooLarge uneven writing
-writing-pinned = (refl, refl, refl, refl, refl, refl, refl, refl, refl, refl, refl)
+    × (writing (words 1048576 none [] [] [] [] []) (7 ∷ 8 ∷ []) ≡ wrote (Unwritten TooBig 0) (7 ∷ 8 ∷ []))
+    × (writing (words 0 none [] [] [] [] (0 ∷ [])) (7 ∷ 8 ∷ []) ≡ wrote (Unwritten Misshapen 0) (7 ∷ 8 ∷ []))
+    × (writing (words 0 none [] [] [] (1 ∷ []) []) (7 ∷ 8 ∷ []) ≡ wrote (Unwritten Misshapen 0) (7 ∷ 8 ∷ []))
+    × (writing (words 1 none [] [] (2 ∷ []) [] []) (7 ∷ 8 ∷ []) ≡ wrote (Unwritten Misshapen 0) (7 ∷ 8 ∷ []))
+    × (writing (words 1 (1 ∷ 0 ∷ 0 ∷ 0 ∷ 0 ∷ []) [] [] [] [] (4 ∷ [])) (7 ∷ 8 ∷ []) ≡ wrote (Unwritten (Over (literal 4)) 0) (7 ∷ 8 ∷ []))
+    × (writing (words 1 none [] [] (4 ∷ 2 ∷ []) [] []) (7 ∷ 8 ∷ []) ≡ wrote (Unwritten (Disordered (literal 4)) 0) (7 ∷ 8 ∷ []))
+    × (writing (words 1 none [] [] (2 ∷ 3 ∷ []) [] []) (7 ∷ 8 ∷ []) ≡ wrote (Unwritten (Disordered (literal 4)) 0) (7 ∷ 8 ∷ []))
+unfolding digitsOf lineBytes countBytes resetBytes latchBytes afterTag rootsBytes firstCode shortest partsOf checked tooLarge uneven writing
+writing-pinned = (refl, refl, refl, refl, refl, refl, refl, refl, refl, refl, refl, refl, refl)

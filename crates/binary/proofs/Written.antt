@@ -1,7 +1,7 @@
 -- What is written of a file spells it, section by section, and so it is read back. A file that was read can be written, and so can a circuit that is lent; and
 -- what writing leaves of the bytes. Assumes nothing.
 use Prim.Native.Nat.{ℕ, zero, suc, _+_, _-_, _*_, _/_, _^_, _≤_, _<_}
-use mathlib.Core.Path.{_≡_, refl, sym, ap, _∙_, subst⁻¹}
+use mathlib.Core.Path.{_≡_, refl, sym, ap, ap₂, _∙_, subst⁻¹}
 use mathlib.Core.Bool.{Bool, true, false, cond}
 use mathlib.Core.List.{List, [], _∷_, _++_}
 use native.Mathlib.Omega.{arith}
@@ -15,23 +15,28 @@ use Rattle.token.specs.declared.Token.the-variants.{Value}
 use Rattle.token.proofs.Theorems.{grouped-reads, shortest-reads-back}
 use Rattle.text.proofs.Groups.{groups-one, groups-more, groups-few}
 use Rattle.circuit.specs.Walk.{Pair, firstCode}
-use Rattle.circuit.specs.Ordered.{Ordered, noPair, sourcesOf}
+use Rattle.circuit.specs.Ordered.{Ordered, firstLatch, noPair, sourcesOf}
 use Rattle.circuit.specs.Outcome.{limit, total, onto}
 use Rattle.lines.specs.declared.Header.{Header}
 use Rattle.lines.specs.Reading.{got}
+use Rattle.lines.specs.Lines.{LatchLine}
 use Rattle.lines.specs.Limits.{Within}
 use Rattle.lines.specs.Sections.{Roots, rootsOf, topCode, rootCount, headerAt}
 use Rattle.lines.specs.Spelling.{Row, Latches, Rooting}
 use Rattle.lines.proofs.Heads.{two}
-use Rattle.sections.specs.Bytes.{linesBytes, afterTag, rootsBytes}
-use Rattle.sections.proofs.Spelled.{in-a-row, at-last}
+use Rattle.sections.specs.Bytes.{latchesBytes, afterTag, rootsBytes}
+use Rattle.sections.specs.Claims.{latchLinesOf}
+use Rattle.sections.proofs.Spelled.{in-a-row, at-last, nexts-back, resets-back}
 use Rattle.sections.proofs.Theorems.{latches-spelled, header-spelled, roots-spelled}
 use Rattle.ordered.specs.declared.given.Fault.{Fault}
 use Rattle.ordered.specs.declared.given.Fault.the-variants.{Short}
 use Rattle.ordered.specs.declared.given.Checked.{Checked}
 use Rattle.ordered.specs.declared.given.Checked.the-variants.{Fits, Faulty}
 use Rattle.ordered.specs.Check.{Words, wordsOf, checked}
+use Rattle.ordered.specs.WellOrdered.{latchesOf}
 use Rattle.ordered.specs.Given.{Given}
+use Rattle.circuit.proofs.Resets.{stray-exactly}
+use Rattle.ordered.proofs.Exactly.{resets-within}
 use Rattle.ordered.proofs.Laid.{pairs-of-words}
 use Rattle.ordered.proofs.Theorems.{fits-exactly, always-fits}
 use Rattle.binary.specs.declared.FileWritten.the-variants.{Written, Unwritten}
@@ -143,9 +148,14 @@ module _ (f : File) (k : Sound f) where
     abbrev r : Roots
     r = rootsOf (f .sizes) (f .ordered .roots)
 
-    latches : Latches (topCode h) (h .latches) (O .nexts) (linesBytes (O .nexts))
+    abbrev lines : List LatchLine
+    lines = latchLinesOf (f .ordered .nexts) (f .ordered .resets)
+
+    latches : Latches (topCode h) (firstLatch (h .inputs)) (h .latches) lines (latchesBytes (O .nexts) (O .resets))
     latches =
-        latches-spelled (topCode h) (O .nexts) (k .wellOrdered .nexts) (λ v i. omega (arith, k .wellOrdered .nexts v i, k .wellOrdered .variables))
+        latches-spelled (topCode h) (firstLatch (O .inputs)) (O .nexts) (O .resets) (sym (k .wellOrdered .resetCount)) (k .wellOrdered .nexts)
+        (resets-within O (k .wellOrdered .resetCount) (k .wellOrdered .resets)) (omega (arith, k .wellOrdered .variables))
+        (stray-exactly (latchesOf O) (O .resets) .1 (k .wellOrdered .resets))
 
     roots : Rooting h (topCode h) (room .roots) r (rootsBytes h r)
     roots =
@@ -166,13 +176,17 @@ module _ (f : File) (k : Sound f) where
             × (getD (O .gates) j noPair .larger < firstCode (sourcesOf O) + 2 * (0 + j))
         from-zero j (a, b) = (a, omega arith)
 
-    its-parts : f ≡ fileWith h (O .nexts) r (O .gates)
-    its-parts = ap with-counts its-counts
+    its-parts : f ≡ fileWith h lines r (O .gates)
+    its-parts =
+        ap (with-counts (O .nexts) (O .resets)) its-counts
+        ∙ ap₂ (λ (ns rs : List ℕ). with-counts ns rs (countsOf h (f .sizes)))
+        (sym (nexts-back (O .nexts) (O .resets) (sym (k .wellOrdered .resetCount))))
+        (sym (resets-back (O .nexts) (O .resets) (sym (k .wellOrdered .resetCount))))
       where
-        with-counts : List ℕ → File
-        with-counts cs =
+        with-counts : List ℕ → List ℕ → List ℕ → File
+        with-counts ns rs cs =
             record {
-              ordered = record { inputs = O .inputs; nexts = O .nexts; gates = O .gates; counts = cs; roots = O .roots };
+              ordered = record { inputs = O .inputs; nexts = ns; resets = rs; gates = O .gates; counts = cs; roots = O .roots };
               sizes = f .sizes;
             }
 
@@ -180,12 +194,12 @@ module _ (f : File) (k : Sound f) where
     unfolding partsOf
     file-spelled =
         let behind : List ℕ = rootsBytes h r ++ gatesBytes (firstCode (sourcesOf O)) (O .gates) in
-        let lists : List ℕ = linesBytes (O .nexts) ++ behind in
+        let lists : List ℕ = latchesBytes (O .nexts) (O .resets) ++ behind in
         let sized : Sized h room tt [] =
-        (omega arith, record { nexts-fit = fits .nexts; gates-fit = fits .gates; sizes-fit = fits .sizes }, refl) in
-        let known : List Pair → File = λ gs. fileWith h (O .nexts) r gs in
+        (omega arith, record { nexts-fit = fits .nexts; resets-fit = omega (arith, fits .resets, k .wellOrdered .resetCount); gates-fit = fits .gates; sizes-fit = fits .sizes }, refl) in
+        let known : List Pair → File = λ gs. fileWith h lines r gs in
         let listed : Listed room h f lists =
-        in-a-row (O .nexts) (linesBytes (O .nexts)) behind latches
+        in-a-row lines (latchesBytes (O .nexts) (O .resets)) behind latches
         (in-a-row r (rootsBytes h r) (gatesBytes (firstCode (sourcesOf O)) (O .gates)) roots (at-last known (O .gates) gates its-parts)) in
         (afterTag h ++ lists, refl, in-a-row h (afterTag h) lists (header-spelled h its-header) (in-a-row tt [] lists sized listed))
 
@@ -210,7 +224,7 @@ read-sound s room f n e =
 pub read-holds : (s : List ℕ) (room : Room) (f : File) (n : ℕ) → readFile s room ≡ got f n → Holds room f
 read-holds s room f n e =
     let known = read-known s room f n e in
-    record { nexts = known .nexts-fit; gates = known .gates-fit; sizes = known .sizes-fit; roots = known .roots-fit }
+    record { nexts = known .nexts-fit; resets = known .resets-fit; gates = known .gates-fit; sizes = known .sizes-fit; roots = known .roots-fit }
 
 -- so can an ordered circuit that is lent with five counts
 pub given-sound : (w : Words) → Given w → length (w .counts) ≡ 5 → Sound (fileIn w)
@@ -226,7 +240,15 @@ lent-back f = ap with-gates (pairs-of-words (f .ordered .gates))
     with-gates : List Pair → File
     with-gates gs =
         record {
-          ordered = record { inputs = f .ordered .inputs; nexts = f .ordered .nexts; gates = gs; counts = f .ordered .counts; roots = f .ordered .roots };
+          ordered =
+              record {
+                inputs = f .ordered .inputs;
+                nexts = f .ordered .nexts;
+                resets = f .ordered .resets;
+                gates = gs;
+                counts = f .ordered .counts;
+                roots = f .ordered .roots;
+              };
           sizes = f .sizes;
         }
 

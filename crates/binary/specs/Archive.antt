@@ -41,7 +41,7 @@ pub record Stored (f : File) (out : List ℕ) (room : Room) : Type 0 where
   pub readsBack : length (fileOf f) ≤ length out → ReadsBack f out room
 
 -- file in, file out: the bytes are refused, and the lists that they are read into cleared; or they are read as f and renumbered, and the result is stored
--- with f's sizes and reads back into the same lists: an ordered circuit in which each next state and root has the value that f gives it
+-- with f's sizes and reads back into the same lists: an ordered circuit in which each next state and root has the value that f gives it, and each latch its first value
 pub data Archived (bytes : List ℕ) (g : Lending) (out : List ℕ) : Type 0 where
   refused : (why : Fault) (place : ℕ) → outcome bytes (g .file) ≡ left (no why place) (g .file) → Archived bytes g out
   archived : (f : File) (used : ℕ) → readFile bytes (roomOf (g .file)) ≡ got f used → (s : Summary)

@@ -13,11 +13,12 @@ use Rattle.binary.specs.File.{File, Room, tag}
 pub record Known (s : List ℕ) (room : Room) (f : File) : Type 0 where
   -- every variable is an input, a latch or a gate: V is the header's M
   pub top : (h : Header) (at : ℕ) → headerAt s tag ≡ got h at → h .top ≡ variablesOf (f .ordered)
-  -- V and R are within the limit, the five counts sum to the roots, no next state or root is over 2V + 1, and each gate's code exceeds its first
+  -- V and R are within the limit, the five counts sum to the roots, no next state or root is over 2V + 1, each reset is 0, 1 or its latch's own literal, and each gate's code exceeds its first
   -- input, which is not below its second
   pub wellOrdered : WellOrdered (f .ordered)
   -- all of it fits its lists
   pub nexts-fit : length (f .ordered .nexts) ≤ room .nexts
+  pub resets-fit : length (f .ordered .resets) ≤ room .resets
   pub gates-fit : 2 * length (f .ordered .gates) ≤ room .gates
   pub sizes-fit : length (f .sizes) ≤ room .sizes
   pub roots-fit : length (f .ordered .roots) ≤ room .roots
@@ -28,6 +29,7 @@ pub record Known (s : List ℕ) (room : Room) (f : File) : Type 0 where
 -- lists as long as the limits: a cell for each variable or root that there may be, two for a gate
 pub record Ample (room : Room) : Type 0 where
   pub nexts : limit ≤ room .nexts
+  pub resets : limit ≤ room .resets
   pub gates : 2 * limit ≤ room .gates
   pub sizes : limit ≤ room .sizes
   pub roots : limit ≤ room .roots

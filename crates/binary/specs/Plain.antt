@@ -5,11 +5,12 @@ use mathlib.Core.List.{List, [], _∷_}
 use lib.ListN.{length}
 use Rattle.token.specs.Format.{groupsValue, shortest}
 use Rattle.circuit.specs.Walk.{Pair}
+use Rattle.circuit.specs.Ordered.{firstLatch}
 use Rattle.lines.specs.declared.Header.{Header}
 use Rattle.lines.specs.Sections.{topCode}
 use Rattle.lines.specs.Spelling.{Row}
 use Rattle.sections.specs.Bytes.{upToLast}
-use Rattle.sections.specs.Claims.{NoResets, spelledOptions}
+use Rattle.sections.specs.Claims.{ResetsNeeded, spelledOptions}
 use Rattle.binary.specs.File.{File, Room}
 use Rattle.binary.specs.Spelling.{Gate, Listed, Spells}
 
@@ -36,9 +37,9 @@ optionsIn room f w t = spelledOptions (t .2 .middle) (t .2 .front) (t .2 .first)
 abbrev pub listsIn : (room : Room) (f : File) (w : List ℕ) (t : Spells room f w) → Listed room (headerIn room f w t) f (t .2 .second .back)
 listsIn room f w t = t .2 .second .second
 
--- no latch line of a file has a reset field
-abbrev pub ResetFree : (room : Room) (h : Header) (f : File) (w : List ℕ) → Listed room h f w → Type 0
-ResetFree room h f w t = NoResets (topCode h) (t .middle) 0 (t .front) (t .first .1)
+-- a latch line of a file has a reset field only where the reset is not 0
+abbrev pub ResetsPlain : (room : Room) (h : Header) (f : File) (w : List ℕ) → Listed room h f w → Type 0
+ResetsPlain room h f w t = ResetsNeeded (topCode h) (firstLatch (h .inputs)) (t .middle) 0 (t .front) (t .first .1)
 
 -- every delta of a file is in its fewest bytes
 abbrev pub ShortestDeltas : (room : Room) (h : Header) (f : File) (w : List ℕ) → Listed room h f w → Type 0
@@ -49,7 +50,7 @@ ShortestDeltas room h f w t =
 pub record Plain (room : Room) (f : File) (w : List ℕ) (t : Spells room f w) : Type 0 where
   -- the header has no optional count past the last that is not zero
   pub options : upToLast (optionsIn room f w t) ≡ optionsIn room f w t
-  -- no latch line has a reset field
-  pub resets : ResetFree room (headerIn room f w t) f (t .2 .second .back) (listsIn room f w t)
+  -- a latch line has a reset field only where the reset is not 0
+  pub resets : ResetsPlain room (headerIn room f w t) f (t .2 .second .back) (listsIn room f w t)
   -- every delta is in its fewest bytes
   pub deltas : ShortestDeltas room (headerIn room f w t) f (t .2 .second .back) (listsIn room f w t)

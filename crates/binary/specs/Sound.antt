@@ -19,6 +19,7 @@ pub record Sound (f : File) : Type 0 where
 -- there are as many cells as its lists ask for, two for a gate
 pub record Holds (room : Room) (f : File) : Type 0 where
   pub nexts : length (f .ordered .nexts) ≤ room .nexts
+  pub resets : length (f .ordered .resets) ≤ room .resets
   pub gates : 2 * length (f .ordered .gates) ≤ room .gates
   pub sizes : length (f .sizes) ≤ room .sizes
   pub roots : length (f .ordered .roots) ≤ room .roots

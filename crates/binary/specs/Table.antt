@@ -14,7 +14,7 @@ told (no why place) = record { number = faultNumber why; place = place }
 
 -- lists that are long enough for every case
 abbrev pub roomy : Room
-roomy = record { nexts = 1000; gates = 2000; sizes = 1000; roots = 2000000 }
+roomy = record { nexts = 1000; resets = 1000; gates = 2000; sizes = 1000; roots = 2000000 }
 
 abbrev pub answer : ℕ → ℕ → Told
 answer n p = record { number = n; place = p }

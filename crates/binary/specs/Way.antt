@@ -25,6 +25,7 @@ pub record Lending : Type 0 where
   pub codes : E.Lists
   pub map : List ℕ
   pub nextImages : List ℕ
+  pub resetImages : List ℕ
   pub rootImages : List ℕ
   pub gatesOut : List ℕ
   pub scratch : List ℕ
@@ -45,8 +46,8 @@ abbrev pub handed : Outcome → E.Outcome → Lending → Lent
 handed r x g =
     lentOf (record { top = variable (topOf (r .read)); counts = r .read .counts; trim = g .trim; hash = g .hash; fold = g .fold })
     (take (r .read .inputs) (x .lists .inputs)) (take (r .read .latches) (x .lists .states)) (take (r .read .latches) (r .lists .nexts))
-    (take (3 * r .read .gates) (x .lists .triples)) (take (total (r .read .counts)) (r .lists .roots)) (g .map) (g .nextImages) (g .rootImages) (g .gatesOut)
-    (g .scratch)
+    (take (r .read .latches) (r .lists .resets)) (take (3 * r .read .gates) (x .lists .triples)) (take (total (r .read .counts)) (r .lists .roots)) (g .map)
+    (g .nextImages) (g .resetImages) (g .rootImages) (g .gatesOut) (g .scratch)
 
 -- the whole way from the bytes
 abbrev pub handedFrom : List ℕ → Lending → Lent
@@ -59,12 +60,13 @@ pub record Enough (r : FileRead) (g : Lending) : Type 0 where
   pub triples : 3 * r .gates ≤ length (g .codes .triples)
   pub map : topOf r + 1 ≤ length (g .map)
   pub nexts : r .latches ≤ length (g .nextImages)
+  pub resets : r .latches ≤ length (g .resetImages)
   pub roots : total (r .counts) ≤ length (g .rootImages)
   pub gates : 2 * r .gates ≤ length (g .gatesOut)
   pub scratch : 3 * topOf r + 3 + 3 * r .gates ≤ length (g .scratch)
 
 -- what is lent is renumbered; the ordered result has no more gates than O, each gate's code exceeds its first input, which is not below its second, and
--- each next state and root has, under every setting, the value that O gives it
+-- each next state and root has, under every setting, the value that O gives it, and each latch its first value
 pub record Arrives (O : Ordered) (l : Lent) : Type 0 where
   pub summary : Summary
   pub renumbered : C.outcome l .answer ≡ Renumbered summary

@@ -10,7 +10,7 @@ use Rattle.circuit.specs.Ordered.{sourcesOf}
 use Rattle.circuit.specs.Outcome.{onto}
 use Rattle.lines.specs.declared.Header.{Header}
 use Rattle.lines.specs.Sections.{rootsOf}
-use Rattle.sections.specs.Bytes.{linesBytes, headerBytes, rootsBytes}
+use Rattle.sections.specs.Bytes.{latchesBytes, headerBytes, rootsBytes}
 use Rattle.ordered.specs.declared.given.Fault.{Fault}
 use Rattle.ordered.specs.declared.given.Fault.the-variants.{Short}
 use Rattle.ordered.specs.declared.given.Checked.{Checked}
@@ -47,14 +47,15 @@ abbrev pub gatesBytes : ℕ → List Pair → List ℕ
 gatesBytes t [] = []
 gatesBytes t (p ∷ ps) = gateBytes t p ++ gatesBytes (t + 2) ps
 
--- all parts in a row: header, latch lines without a reset, the root section, gates after n inputs and latches
-unfoldable pub partsOf : Header → List ℕ → List ℕ → List ℕ → ℕ → List Pair → List ℕ
-partsOf h nexts sizes roots n gates =
-    headerBytes tag h ++ (linesBytes nexts ++ (rootsBytes h (rootsOf sizes roots) ++ gatesBytes (firstCode n) gates))
+-- all parts in a row: header, latch lines with a reset only where it is not 0, the root section, gates after n inputs and latches
+unfoldable pub partsOf : Header → List ℕ → List ℕ → List ℕ → List ℕ → ℕ → List Pair → List ℕ
+partsOf h nexts resets sizes roots n gates =
+    headerBytes tag h ++ (latchesBytes nexts resets ++ (rootsBytes h (rootsOf sizes roots) ++ gatesBytes (firstCode n) gates))
 
 -- the whole file
 abbrev pub fileOf : File → List ℕ
-fileOf f = partsOf (headerFor f) (f .ordered .nexts) (f .sizes) (f .ordered .roots) (sourcesOf (f .ordered)) (f .ordered .gates)
+fileOf f =
+    partsOf (headerFor f) (f .ordered .nexts) (f .ordered .resets) (f .sizes) (f .ordered .roots) (sourcesOf (f .ordered)) (f .ordered .gates)
 
 -- the circuit that is lent, with its sizes
 abbrev pub fileIn : Words → File

@@ -92,19 +92,20 @@ pub fn put_file(
     out: &mut [u8],
     h: Header,
     nexts: &[u32],
+    resets: &[u32],
     gates: &[u32],
     sizes: &[u32],
     roots: &[u32],
 ) -> usize
     requires { ⌜ (2 * (h .inputs + length (now nexts)) + length (now gates) ≤ 2097150) × InOrder (h .inputs + length (now nexts)) (pairsOf (now gates)) ⌝ }
-    ensures { λ r. ⌜ (now (out .exit) ≡ putAll (now (out .entry)) 0 (partsOf h (now (nexts .entry)) (now (sizes .entry)) (now (roots .entry))
+    ensures { λ r. ⌜ (now (out .exit) ≡ putAll (now (out .entry)) 0 (partsOf h (now (nexts .entry)) (now (resets .entry)) (now (sizes .entry)) (now (roots .entry))
         (h .inputs + length (now (nexts .entry))) (pairsOf (now (gates .entry)))))
-        × (r ≡ further 0 (length (partsOf h (now (nexts .entry)) (now (sizes .entry)) (now (roots .entry)) (h .inputs + length (now (nexts .entry)))
+        × (r ≡ further 0 (length (partsOf h (now (nexts .entry)) (now (resets .entry)) (now (sizes .entry)) (now (roots .entry)) (h .inputs + length (now (nexts .entry)))
         (pairsOf (now (gates .entry)))))) ⌝ }
 {
     let sources = wide(h.inputs) + nexts.len();
     let after_header = sections::put_header(out, 0, b"aig", h);
-    let after_latches = sections::put_lines(out, after_header, nexts);
+    let after_latches = sections::put_latches(out, after_header, nexts, resets);
     let after_roots = sections::put_roots(out, after_latches, h, sizes, roots);
     put_gates(out, after_roots, sources, gates)
 }

@@ -99,13 +99,13 @@ module _ (counts : List ℕ) (flags : ℕ) (words : List ℕ) (n : ℕ) (ws : Li
       go false false e m q w = record { room = ltb-false (length words) 3 e; given = m; stay = w }
 
   pub way-first : (n ≡ 0 → ⊥) → (l : Lent)
-      → seenOf n (l .map) (l .nextImages) (l .rootImages) (l .gatesOut) (l .scratch) ws ≡ renumberSeen counts flags l words
+      → seenOf n (l .map) (l .nextImages) (l .resetImages) (l .rootImages) (l .gatesOut) (l .scratch) ws ≡ renumberSeen counts flags l words
   unfolding firstNumber firstWords renumberSeen
   way-first some l = go (ltb (length words) 3) (misgiven counts flags) (p .0) (p .1)
     where
       go : (short bad : Bool) → n ≡ cond short 3 (cond bad 2 0) → ws ≡ cond short words (cond bad (onto (0 ∷ 0 ∷ 0 ∷ []) words) words)
-          → seenOf n (l .map) (l .nextImages) (l .rootImages) (l .gatesOut) (l .scratch) ws
-          ≡ cond short (seenOf 3 (l .map) (l .nextImages) (l .rootImages) (l .gatesOut) (l .scratch) words)
+          → seenOf n (l .map) (l .nextImages) (l .resetImages) (l .rootImages) (l .gatesOut) (l .scratch) ws
+          ≡ cond short (seenOf 3 (l .map) (l .nextImages) (l .resetImages) (l .rootImages) (l .gatesOut) (l .scratch) words)
           (asSeen (cond bad (untouched l Misshapen) (outcome l)) words)
       go true bad q w = rw (q, w)
       go false true q w = rw (q, w)
@@ -115,7 +115,7 @@ module _ (counts : List ℕ) (flags : ℕ) (words : List ℕ) (n : ℕ) (ws : Li
 module _ (counts : List ℕ) (flags : ℕ) (l : Lent) (words : List ℕ) where
   pub way-on : (kept : List ℕ) → Taken counts flags words kept → (k : Lent) → k ≡ l → (o : Outcome) → o ≡ outcome k → (n : ℕ) (ws : List ℕ)
       → (n ≡ answerNumber (o .answer)) × (ws ≡ onto (answerWords (o .answer)) kept)
-      → seenOf n (o .map) (o .nextImages) (o .rootImages) (o .gatesOut) (o .scratch) ws ≡ renumberSeen counts flags l words
+      → seenOf n (o .map) (o .nextImages) (o .resetImages) (o .rootImages) (o .gatesOut) (o .scratch) ws ≡ renumberSeen counts flags l words
   unfolding renumberSeen
   way-on kept t k alike o ran n ws p =
       let e = le-ltb (length words) 3 (t .room) in

@@ -31,27 +31,36 @@ use Rattle.capi.proofs.imdagluz_write_aig.Reads as write-aig-promise
 pub one-imdagluz-delta : DeterminesCells 2 delta-kinds.ps delta-kinds.r delta-promise.Learnt (λ κs e. now (e .1 .1 .1 .0))
 one-imdagluz-delta κs a x y e f p q = (p .0 ∙ sym (q .0), p .1 ∙ sym (q .1))
 
--- of `imdagluz_renumber` the number, each of the five lists, and the answer words
+-- of `imdagluz_renumber` the number, each of the six lists, and the answer words
 pub one-imdagluz-renumber :
-    DeterminesCells 12 renumber-kinds.ps renumber-kinds.r renumber-promise.Learnt {A = List ℕ × List ℕ × List ℕ × List ℕ × List ℕ × List ℕ}
+    DeterminesCells 14 renumber-kinds.ps renumber-kinds.r renumber-promise.Learnt {A = List ℕ × List ℕ × List ℕ × List ℕ × List ℕ × List ℕ × List ℕ}
     (λ κs e. (
-      now (e .1 .1 .1 .1 .1 .1 .1 .1 .0),
       now (e .1 .1 .1 .1 .1 .1 .1 .1 .1 .0),
       now (e .1 .1 .1 .1 .1 .1 .1 .1 .1 .1 .0),
-      now
-          (e .1 .1 .1 .1 .1 .1 .1 .1 .1 .1 .1 .0),
+      now (e .1 .1 .1 .1 .1 .1 .1 .1 .1 .1 .1 .0),
       now (e .1 .1 .1 .1 .1 .1 .1 .1 .1 .1 .1 .1 .0),
       now (e .1 .1 .1 .1 .1 .1 .1 .1 .1 .1 .1 .1 .1 .0),
+      now (e .1 .1 .1 .1 .1 .1 .1 .1 .1 .1 .1 .1 .1 .1 .0),
+      now (e .1 .1 .1 .1 .1 .1 .1 .1 .1 .1 .1 .1 .1 .1 .1 .0),
     ))
-one-imdagluz-renumber κs a x y e f p q =
-    (ap (λ (s : Seen). s .number) (p ∙ sym q), ap (λ (s : Seen). (s .map, s .nextImages, s .rootImages, s .gatesOut, s .scratch, s .words)) (p ∙ sym q))
+one-imdagluz-renumber κs a x y e f p q = (
+  ap (λ (s : Seen). s .number) (p ∙ sym q),
+  ap (λ (s : Seen). (s .map, s .nextImages, s .resetImages, s .rootImages, s .gatesOut, s .scratch, s .words)) (p ∙ sym q),
+)
 
--- of `imdagluz_read_aig` the number, each of the four lists, and the answer words
+-- of `imdagluz_read_aig` the number, each of the five lists, and the answer words
 pub one-imdagluz-read-aig :
-    DeterminesCells 6 read-aig-kinds.ps read-aig-kinds.r read-aig-promise.Learnt {A = List ℕ × List ℕ × List ℕ × List ℕ × List ℕ}
-    (λ κs e. (now (e .1 .0), now (e .1 .1 .0), now (e .1 .1 .1 .0), now (e .1 .1 .1 .1 .0), now (e .1 .1 .1 .1 .1 .0)))
+    DeterminesCells 7 read-aig-kinds.ps read-aig-kinds.r read-aig-promise.Learnt {A = List ℕ × List ℕ × List ℕ × List ℕ × List ℕ × List ℕ}
+    (λ κs e. (
+      now (e .1 .0),
+      now (e .1 .1 .0),
+      now (e .1 .1 .1 .0),
+      now (e .1 .1 .1 .1 .0),
+      now (e .1 .1 .1 .1 .1 .0),
+      now (e .1 .1 .1 .1 .1 .1 .0),
+    ))
 one-imdagluz-read-aig κs a x y e f p q =
-    (ap (λ (s : file.Seen). s .number) (p ∙ sym q), ap (λ (s : file.Seen). (s .nexts, s .gates, s .sizes, s .roots, s .words)) (p ∙ sym q))
+    (ap (λ (s : file.Seen). s .number) (p ∙ sym q), ap (λ (s : file.Seen). (s .nexts, s .resets, s .gates, s .sizes, s .roots, s .words)) (p ∙ sym q))
 
 -- of `imdagluz_expand` the number, and each of the three lists
 pub one-imdagluz-expand :
@@ -62,8 +71,8 @@ one-imdagluz-expand κs a x y e f p q =
 
 -- of `imdagluz_write_aig` the number, each lent byte, and the answer words
 pub one-imdagluz-write-aig :
-    DeterminesCells 7 write-aig-kinds.ps write-aig-kinds.r write-aig-promise.Learnt {A = List ℕ × List ℕ}
-    (λ κs e. (now (e .1 .1 .1 .1 .1 .1 .0), now (e .1 .1 .1 .1 .1 .1 .1 .0)))
+    DeterminesCells 8 write-aig-kinds.ps write-aig-kinds.r write-aig-promise.Learnt {A = List ℕ × List ℕ}
+    (λ κs e. (now (e .1 .1 .1 .1 .1 .1 .1 .0), now (e .1 .1 .1 .1 .1 .1 .1 .1 .0)))
 one-imdagluz-write-aig κs a x y e f p q =
     (ap (λ (s : write.Seen). s .number) (p ∙ sym q), ap (λ (s : write.Seen). (s .bytes, s .words)) (p ∙ sym q))
 

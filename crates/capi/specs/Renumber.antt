@@ -12,22 +12,24 @@ use Rattle.circuit.specs.declared.CircuitRecord.{CircuitRecord}
 use Rattle.circuit.specs.Refusals.{refusalNumber, refusalLiteral}
 use Rattle.circuit.specs.Outcome.{Lent, Outcome, onto, untouched, outcome}
 
--- all that C sees afterwards: the number answered, the five lists that renumbering writes, and the answer words
+-- all that C sees afterwards: the number answered, the six lists that renumbering writes, and the answer words
 pub record Seen : Type 0 where
   pub number : ℕ
   pub map : List ℕ
   pub nextImages : List ℕ
+  pub resetImages : List ℕ
   pub rootImages : List ℕ
   pub gatesOut : List ℕ
   pub scratch : List ℕ
   pub words : List ℕ
 
-abbrev pub seenOf : ℕ → List ℕ → List ℕ → List ℕ → List ℕ → List ℕ → List ℕ → Seen
-seenOf number map nextImages rootImages gatesOut scratch words =
+abbrev pub seenOf : ℕ → List ℕ → List ℕ → List ℕ → List ℕ → List ℕ → List ℕ → List ℕ → Seen
+seenOf number map nextImages resetImages rootImages gatesOut scratch words =
     record {
       number = number;
       map = map;
       nextImages = nextImages;
+      resetImages = resetImages;
       rootImages = rootImages;
       gatesOut = gatesOut;
       scratch = scratch;
@@ -67,11 +69,12 @@ answerWords (Refused why) = refusalLiteral why .0 ∷ 0 ∷ 0 ∷ []
 -- an outcome as C sees it; words past the third stay
 abbrev pub asSeen : Outcome → List ℕ → Seen
 asSeen o words =
-    seenOf (answerNumber (o .answer)) (o .map) (o .nextImages) (o .rootImages) (o .gatesOut) (o .scratch) (onto (answerWords (o .answer)) words)
+    seenOf (answerNumber (o .answer)) (o .map) (o .nextImages) (o .resetImages) (o .rootImages) (o .gatesOut) (o .scratch)
+    (onto (answerWords (o .answer)) words)
 
 -- fewer than three answer words is refusal 3, tested first, and leaves every list; then counts or flags that can't be taken are refusal 2, and
--- leave the five lists; else it is the outcome of renumbering what is lent
+-- leave the six lists; else it is the outcome of renumbering what is lent
 unfoldable pub renumberSeen : List ℕ → ℕ → Lent → List ℕ → Seen
 renumberSeen counts flags l words =
-    cond (ltb (length words) 3) (seenOf 3 (l .map) (l .nextImages) (l .rootImages) (l .gatesOut) (l .scratch) words)
+    cond (ltb (length words) 3) (seenOf 3 (l .map) (l .nextImages) (l .resetImages) (l .rootImages) (l .gatesOut) (l .scratch) words)
     (asSeen (cond (misgiven counts flags) (untouched l Misshapen) (outcome l)) words)

@@ -29,10 +29,12 @@ pub extern "C" fn imdagluz_renumber(
     inputs: &[u32],
     states: &[u32],
     nexts: &[u32],
+    resets: &[u32],
     gates: &[u32],
     roots: &[u32],
     map: &mut [u32],
     next_images: &mut [u32],
+    reset_images: &mut [u32],
     root_images: &mut [u32],
     gates_out: &mut [u32],
     scratch: &mut [u32],
@@ -42,6 +44,7 @@ pub extern "C" fn imdagluz_renumber(
       number = r;
       map = now (map .exit);
       nextImages = now («next_images» .exit);
+      resetImages = now («reset_images» .exit);
       rootImages = now («root_images» .exit);
       gatesOut = now («gates_out» .exit);
       scratch = now (scratch .exit);
@@ -51,10 +54,12 @@ pub extern "C" fn imdagluz_renumber(
       inputs = now (inputs .entry);
       states = now (states .entry);
       nexts = now (nexts .entry);
+      resets = now (resets .entry);
       gates = now (gates .entry);
       roots = now (roots .entry);
       map = now (map .entry);
       nextImages = now («next_images» .entry);
+      resetImages = now («reset_images» .entry);
       rootImages = now («root_images» .entry);
       gatesOut = now («gates_out» .entry);
       scratch = now (scratch .entry);
@@ -69,10 +74,12 @@ pub extern "C" fn imdagluz_renumber(
         inputs,
         states,
         nexts,
+        resets,
         gates,
         roots,
         map,
         next_images,
+        reset_images,
         root_images,
         gates_out,
         scratch,
@@ -82,11 +89,12 @@ pub extern "C" fn imdagluz_renumber(
 
 // Reads a binary AIGER file as `binary::read` does: 0, or a refusal's number. The answer goes to the first eleven words of `answer`: the bytes used, or the
 // place of the refusal; then, 0 for a refusal, M = I + L + A, I, L, A, the five root counts in walk order, the number of justice sets. Fewer than eleven
-// words is refusal 3, tested first, and writes nothing; every other refusal leaves each cell of the four lists 0.
+// words is refusal 3, tested first, and writes nothing; every other refusal leaves each cell of the five lists 0.
 #[no_mangle]
 pub extern "C" fn imdagluz_read_aig(
     bytes: &[u8],
     nexts: &mut [u32],
+    resets: &mut [u32],
     gates: &mut [u32],
     sizes: &mut [u32],
     roots: &mut [u32],
@@ -95,18 +103,20 @@ pub extern "C" fn imdagluz_read_aig(
     ensures { λ r. ⌜ fileSeen (record {
       number = r;
       nexts = now (nexts .exit);
+      resets = now (resets .exit);
       gates = now (gates .exit);
       sizes = now (sizes .exit);
       roots = now (roots .exit);
       words = now (answer .exit);
     }) ≡ readSeen (now (bytes .entry)) (record {
       nexts = now (nexts .entry);
+      resets = now (resets .entry);
       gates = now (gates .entry);
       sizes = now (sizes .entry);
       roots = now (roots .entry);
     }) (now (answer .entry)) ⌝ }
 {
-    file_words::read(bytes, nexts, gates, sizes, roots, answer)
+    file_words::read(bytes, nexts, resets, gates, sizes, roots, answer)
 }
 
 // Of an ordered circuit with I inputs, L latches and gates two words each the lists that renumbering takes, as `ordered::expand` makes them: 0, or a refusal's
@@ -150,6 +160,7 @@ pub extern "C" fn imdagluz_write_aig(
     inputs: u32,
     counts: &[u32],
     nexts: &[u32],
+    resets: &[u32],
     gates: &[u32],
     sizes: &[u32],
     roots: &[u32],
@@ -164,10 +175,21 @@ pub extern "C" fn imdagluz_write_aig(
       inputs = inputs;
       counts = now (counts .entry);
       nexts = now (nexts .entry);
+      resets = now (resets .entry);
       gates = now (gates .entry);
       sizes = now (sizes .entry);
       roots = now (roots .entry);
     }) (now (out .entry)) (now (answer .entry)) ⌝ }
 {
-    file_words::write(inputs, counts, nexts, gates, sizes, roots, out, answer)
+    file_words::write(
+        inputs,
+        counts,
+        nexts,
+        resets,
+        gates,
+        sizes,
+        roots,
+        out,
+        answer,
+    )
 }

@@ -23,7 +23,7 @@ use Rattle.checks.specs.declared.Found.the-variants.{Literal, Nothing}
 use Rattle.checks.specs.declared.Check.{Check}
 use Rattle.checks.specs.declared.Check.the-variants.{Passed, Failed}
 use Rattle.checks.specs.declared.Lengths.{Lengths}
-use Rattle.checks.specs.Checks.{found, failIf, failAt, andThen, overLimit, unequal, lacks, Small, sizing, lengthsOf, passing, Shaped}
+use Rattle.checks.specs.Checks.{found, failIf, failAt, andThen, overLimit, unequal, lacks, Small, sizing, lengthsOf, straying, passing, Shaped}
 
 -- five counts
 total-five : (l : List ℕ) → length l ≡ 5 → getD l 0 0 + (getD l 1 0 + (getD l 2 0 + (getD l 3 0 + getD l 4 0))) ≡ total l
@@ -83,9 +83,16 @@ module _ (counts : List ℕ) (n : Lengths) (sum : ℕ) (isTotal : sum ≡ total 
     unfolding unequal
     shape-latches k = rw (eq-eqb (total counts) (n .roots) (sym isTotal ∙ e), ne-eqb (n .states) (n .nexts) k)
 
-    pub shape-gates : n .states ≡ n .nexts → not (eqb (n .«left_over») 0) ≡ unequal counts n
-    unfolding unequal
-    shape-gates k = rw (eq-eqb (total counts) (n .roots) (sym isTotal ∙ e), eq-eqb (n .states) (n .nexts) k)
+    module _ (k : n .states ≡ n .nexts) where
+      pub shape-resets : (n .states ≡ n .resets → ⊥) → true ≡ unequal counts n
+      unfolding unequal
+      shape-resets m =
+          rw (eq-eqb (total counts) (n .roots) (sym isTotal ∙ e), eq-eqb (n .states) (n .nexts) k, ne-eqb (n .states) (n .resets) m)
+
+      pub shape-gates : n .states ≡ n .resets → not (eqb (n .«left_over») 0) ≡ unequal counts n
+      unfolding unequal
+      shape-gates m =
+          rw (eq-eqb (total counts) (n .roots) (sym isTotal ∙ e), eq-eqb (n .states) (n .nexts) k, eq-eqb (n .states) (n .resets) m)
 
 -- check 3
 module _ (v : ℕ) (n : Lengths) where
@@ -99,30 +106,43 @@ module _ (v : ℕ) (n : Lengths) where
     short-nexts h = rw (le-ltb (n .map) (v + 1) a, lt-ltb (n .«next_images») (n .states) h)
 
     module _ (b : n .states ≤ n .«next_images») where
-      pub short-roots : n .«root_images» < n .roots → true ≡ lacks v n
+      pub short-resets : n .«reset_images» < n .states → true ≡ lacks v n
       unfolding lacks
-      short-roots h = rw (le-ltb (n .map) (v + 1) a, le-ltb (n .«next_images») (n .states) b, lt-ltb (n .«root_images») (n .roots) h)
+      short-resets h = rw (le-ltb (n .map) (v + 1) a, le-ltb (n .«next_images») (n .states) b, lt-ltb (n .«reset_images») (n .states) h)
 
-      module _ (c : n .roots ≤ n .«root_images») where
-        pub short-gates : n .«gates_out» < 2 * n .gates → true ≡ lacks v n
+      module _ (d : n .states ≤ n .«reset_images») where
+        pub short-roots : n .«root_images» < n .roots → true ≡ lacks v n
         unfolding lacks
-        short-gates h =
+        short-roots h =
             rw (
               le-ltb (n .map) (v + 1) a,
               le-ltb (n .«next_images») (n .states) b,
-              le-ltb (n .«root_images») (n .roots) c,
-              lt-ltb (n .«gates_out») (2 * n .gates) h,
+              le-ltb (n .«reset_images») (n .states) d,
+              lt-ltb (n .«root_images») (n .roots) h,
             )
 
-        pub short-scratch : 2 * n .gates ≤ n .«gates_out» → ltb (n .scratch) (3 * v + 3 + 3 * n .gates) ≡ lacks v n
-        unfolding lacks
-        short-scratch h =
-            rw (
-              le-ltb (n .map) (v + 1) a,
-              le-ltb (n .«next_images») (n .states) b,
-              le-ltb (n .«root_images») (n .roots) c,
-              le-ltb (n .«gates_out») (2 * n .gates) h,
-            )
+        module _ (c : n .roots ≤ n .«root_images») where
+          pub short-gates : n .«gates_out» < 2 * n .gates → true ≡ lacks v n
+          unfolding lacks
+          short-gates h =
+              rw (
+                le-ltb (n .map) (v + 1) a,
+                le-ltb (n .«next_images») (n .states) b,
+                le-ltb (n .«reset_images») (n .states) d,
+                le-ltb (n .«root_images») (n .roots) c,
+                lt-ltb (n .«gates_out») (2 * n .gates) h,
+              )
+
+          pub short-scratch : 2 * n .gates ≤ n .«gates_out» → ltb (n .scratch) (3 * v + 3 + 3 * n .gates) ≡ lacks v n
+          unfolding lacks
+          short-scratch h =
+              rw (
+                le-ltb (n .map) (v + 1) a,
+                le-ltb (n .«next_images») (n .states) b,
+                le-ltb (n .«reset_images») (n .states) d,
+                le-ltb (n .«root_images») (n .roots) c,
+                le-ltb (n .«gates_out») (2 * n .gates) h,
+              )
 
 -- checks 1 to 3 in turn, each as its function answers it
 module _ (circuit : CircuitRecord) (n : Lengths) (v : ℕ) (isTop : v ≡ circuit .top .0) (r₁ : Bool) (e₁ : r₁ ≡ overLimit v n) where
@@ -159,24 +179,34 @@ module _ (circuit : CircuitRecord) (n : Lengths) (v : ℕ) (isTop : v ≡ circui
       sizes-pass k = rw (one false n₁, sym e₂ ∙ n₂, three false k)
 
 -- what passes them agrees
-pub sizing-shaped : (circuit : CircuitRecord) (n : Lengths) → sizing circuit n ≡ Passed → (n .states ≡ n .nexts) × (n .«left_over» ≡ 0)
+pub sizing-shaped : (circuit : CircuitRecord) (n : Lengths) → sizing circuit n ≡ Passed
+    → (n .states ≡ n .nexts) × (n .states ≡ n .resets) × (n .«left_over» ≡ 0)
 unfolding sizing unequal
-sizing-shaped circuit n e =
-    go (overLimit (circuit .top .0) n)
-    (not (eqb (total (circuit .counts)) (n .roots)) || not (eqb (n .states) (n .nexts)) || not (eqb (n .«left_over») 0)) refl
-    (lacks (circuit .top .0) n) e
+sizing-shaped circuit n e = go (overLimit (circuit .top .0) n) (counts || latches || resets || words) refl (lacks (circuit .top .0) n) e
   where
-    go : (a b : Bool) → not (eqb (total (circuit .counts)) (n .roots)) || not (eqb (n .states) (n .nexts)) || not (eqb (n .«left_over») 0) ≡ b → (c : Bool)
-        → failIf a TooBig (failIf b Misshapen (failIf c Short Passed)) ≡ Passed → (n .states ≡ n .nexts) × (n .«left_over» ≡ 0)
+    counts : Bool
+    counts = not (eqb (total (circuit .counts)) (n .roots))
+
+    latches : Bool
+    latches = not (eqb (n .states) (n .nexts))
+
+    resets : Bool
+    resets = not (eqb (n .states) (n .resets))
+
+    words : Bool
+    words = not (eqb (n .«left_over») 0)
+
+    go : (a b : Bool) → counts || latches || resets || words ≡ b → (c : Bool) → failIf a TooBig (failIf b Misshapen (failIf c Short Passed)) ≡ Passed
+        → (n .states ≡ n .nexts) × (n .states ≡ n .resets) × (n .«left_over» ≡ 0)
     go true b q c k = absurd (let z : _≡_ {A = ℕ} 0 1 = cc in omega arith)
     go false true q c k = absurd (let z : _≡_ {A = ℕ} 0 1 = cc in omega arith)
     go false false q c k =
-        let counts = not (eqb (total (circuit .counts)) (n .roots)) in
-        let latches = not (eqb (n .states) (n .nexts)) in
-        let two = or-false (counts || latches) (not (eqb (n .«left_over») 0)) q in
+        let three = or-false (counts || latches || resets) words q in
+        let two = or-false (counts || latches) resets (three .0) in
         let one = or-false counts latches (two .0) in (
           eqb-true (n .states) (n .nexts) (not-false (eqb (n .states) (n .nexts)) (one .1)),
-          eqb-true (n .«left_over») 0 (not-false (eqb (n .«left_over») 0) (two .1)),
+          eqb-true (n .states) (n .resets) (not-false (eqb (n .states) (n .resets)) (two .1)),
+          eqb-true (n .«left_over») 0 (not-false (eqb (n .«left_over») 0) (three .1)),
         )
 
 -- checks 1 to 3 on lengths say what those on the lists say
@@ -198,12 +228,16 @@ module _ (l : Lent) where
   unfolding sizing
   sizing-is = rw (big-is, uneven-is, short-is)
 
-  -- so what check 4 says comes after them
-  in-turn : passing l ≡ andThen (sizing (l .circuit) (lengthsOf l)) (failAt (firstOver (2 * circuitOf l .top + 1) (codes (circuitOf l))) Over Passed)
+  -- so what checks 4 and 22 say comes after them
+  abbrev four : Option ℕ
+  four = firstOver (2 * circuitOf l .top + 1) (codes (circuitOf l))
+
+  abbrev last : Check
+  last = failAt four Over (straying (l .states) (l .resets))
+
+  in-turn : passing l ≡ andThen (sizing (l .circuit) (lengthsOf l)) last
   unfolding passing
-  in-turn =
-      let last = failAt (firstOver (2 * circuitOf l .top + 1) (codes (circuitOf l))) Over Passed in
-      go (tooBig (circuitOf l)) (misshapen l) (tooShort l (circuitOf l)) last ∙ ap (λ (c : Check). andThen c last) (sym sizing-is)
+  in-turn = go (tooBig (circuitOf l)) (misshapen l) (tooShort l (circuitOf l)) last ∙ ap (λ (c : Check). andThen c last) (sym sizing-is)
     where
       go : (a b c : Bool) (d : Check) → failIf a TooBig (failIf b Misshapen (failIf c Short d))
           ≡ andThen (failIf a TooBig (failIf b Misshapen (failIf c Short Passed))) d
@@ -215,27 +249,26 @@ module _ (l : Lent) where
   -- the returns of `checked`
   module _ (r : Check) (e : r ≡ sizing (l .circuit) (lengthsOf l)) where
     pub fails-sized : (why : Refusal) → r ≡ Failed why → Failed why ≡ passing l
-    fails-sized why k =
-        sym (in-turn ∙ ap (λ (c : Check). andThen c (failAt (firstOver (2 * circuitOf l .top + 1) (codes (circuitOf l))) Over Passed)) (sym e ∙ k))
+    fails-sized why k = sym (in-turn ∙ ap (λ (c : Check). andThen c last) (sym e ∙ k))
 
     module _ (k : r ≡ Passed) where
-      pub shaped : Shaped (l .states) (l .nexts) (l .gates)
-      shaped = let s = sizing-shaped (l .circuit) (lengthsOf l) (sym e ∙ k) in record { latches = s .0; whole = s .1 }
+      pub shaped : Shaped (l .states) (l .nexts) (l .resets) (l .gates)
+      shaped = let s = sizing-shaped (l .circuit) (lengthsOf l) (sym e ∙ k) in record { latches = s .0; starts = s .1; whole = s .2 }
 
-      past : passing l ≡ failAt (firstOver (2 * circuitOf l .top + 1) (codes (circuitOf l))) Over Passed
-      past = in-turn ∙ ap (λ (c : Check). andThen c (failAt (firstOver (2 * circuitOf l .top + 1) (codes (circuitOf l))) Over Passed)) (sym e ∙ k)
+      past : passing l ≡ last
+      past = in-turn ∙ ap (λ (c : Check). andThen c last) (sym e ∙ k)
 
-      module _ (f : Found) (e₄ : f ≡ found (firstOver (2 * circuitOf l .top + 1) (codes (circuitOf l)))) where
+      module _ (f : Found) (e₄ : f ≡ found four) where
         pub fails-over : (x : Lit) → f ≡ Literal x → Failed (Over x) ≡ passing l
-        fails-over x h = go (firstOver (2 * circuitOf l .top + 1) (codes (circuitOf l))) (sym h ∙ e₄) ∙ sym past
+        fails-over x h = go four (sym h ∙ e₄) ∙ sym past
           where
-            go : (o : Option ℕ) → Literal x ≡ found o → Failed (Over x) ≡ failAt o Over Passed
+            go : (o : Option ℕ) → Literal x ≡ found o → Failed (Over x) ≡ failAt o Over (straying (l .states) (l .resets))
             go none q = absurd (let z : _≡_ {A = ℕ} 0 1 = cc in omega arith)
             go (some d) q = cc
 
-        pub passes : f ≡ Nothing → Passed ≡ passing l
-        passes h = go (firstOver (2 * circuitOf l .top + 1) (codes (circuitOf l))) (sym h ∙ e₄) ∙ sym past
+        pub passes : f ≡ Nothing → (s : Check) → s ≡ straying (l .states) (l .resets) → s ≡ passing l
+        passes h s es = es ∙ go four (sym h ∙ e₄) ∙ sym past
           where
-            go : (o : Option ℕ) → Nothing ≡ found o → Passed ≡ failAt o Over Passed
+            go : (o : Option ℕ) → Nothing ≡ found o → straying (l .states) (l .resets) ≡ failAt o Over (straying (l .states) (l .resets))
             go none q = refl
             go (some d) q = absurd (let z : _≡_ {A = ℕ} 0 1 = cc in omega arith)

@@ -5,8 +5,8 @@ use Rattle.circuit.specs.declared.CircuitRecord.{CircuitRecord}
 use Rattle.circuit.specs.Circuit.{Circuit}
 use Rattle.circuit.specs.Outcome.{Lent, lentOf, circuitOf}
 
-abbrev pub bare : CircuitRecord → List ℕ → List ℕ → List ℕ → List ℕ → List ℕ → Lent
-bare circuit inputs states nexts gates roots = lentOf circuit inputs states nexts gates roots [] [] [] [] []
+abbrev pub bare : CircuitRecord → List ℕ → List ℕ → List ℕ → List ℕ → List ℕ → List ℕ → Lent
+bare circuit inputs states nexts resets gates roots = lentOf circuit inputs states nexts resets gates roots [] [] [] [] [] []
 
-abbrev pub circuitIn : CircuitRecord → List ℕ → List ℕ → List ℕ → List ℕ → List ℕ → Circuit
-circuitIn circuit inputs states nexts gates roots = circuitOf (bare circuit inputs states nexts gates roots)
+abbrev pub circuitIn : CircuitRecord → List ℕ → List ℕ → List ℕ → List ℕ → List ℕ → List ℕ → Circuit
+circuitIn circuit inputs states nexts resets gates roots = circuitOf (bare circuit inputs states nexts resets gates roots)

@@ -18,12 +18,13 @@ use Rattle.circuit.specs.Graph.{In, Gate, outVar}
 use Rattle.circuit.specs.Map.{noImage, imageIn, codeOf}
 use Rattle.circuit.specs.Walk.{sourceCount, Pair, Work, firstCode, foldedIf, reached}
 use Rattle.circuit.specs.Circuit.{Circuit, net}
-use Rattle.circuit.specs.Ordered.{imagesIn, orderedOf, noPair}
+use Rattle.circuit.specs.Ordered.{imagesIn, carried, carriedFrom, firstLatch, orderedOf, noPair}
 use Rattle.circuit.specs.Outcome.{Lent, Outcome, circuitOf, conclusion, scratchWords, onto, zeros, pairWords, outcome}
 use Rattle.circuit.specs.Claims.{HasImage, Named, Folds, imageAfter, largerAfter, smallerAfter, Taken, Untaken, Stays, IsNew, Ruled, Keeps, Filled, Fills, Holds, Roomy}
 use Rattle.circuit.proofs.Tests.{lt-or, Same, same, other, sameTest}
 use Rattle.circuit.proofs.Rows.{RowIf, takesIf, leavesIf, rowIf}
 use Rattle.circuit.proofs.Renumber.{Done}
+use Rattle.circuit.proofs.Carried.{carried-length, carried-at}
 use Rattle.circuit.proofs.Words.{pairs-length, pairs-larger, pairs-smaller}
 use Rattle.circuit.proofs.Outcome.{agrees, roomy, success-of, onto-at}
 use Rattle.circuit.proofs.Lengths.{filled, keeps-past}
@@ -209,6 +210,30 @@ module _ (l : Lent) (w : Work) (e : conclusion l ≡ reached w) where
     latches : length (C .states) ≡ length (C .nexts)
     latches = agrees l (S.facts l w e .0 .two) .latches
 
+    resets : length (C .states) ≡ length (C .resets)
+    resets = agrees l (S.facts l w e .0 .two) .resets
+
+    carry : List ℕ
+    carry = carriedFrom (firstLatch (length (C .inputs))) (C .resets)
+
+    carry-length : length carry ≡ length (C .states)
+    unfolding carry
+    carry-length = carried-length (firstLatch (length (C .inputs))) (C .resets) ∙ sym resets
+
+    reset-word : (j : ℕ) → j < length (C .states) → getD (outcome l .resetImages) j 0 ≡ getD carry j 0
+    unfolding orderedOf carry
+    reset-word j h =
+        ap (λ (o : Outcome). getD (o .resetImages) j 0) (success-of l w e)
+        ∙ onto-at carry (l .resetImages) j 0 (omega (arith, carry-length)) (omega (arith, carry-length, room .resets))
+
+    reset-is : (j : ℕ) → j < length (C .states)
+        → getD (outcome l .resetImages) j 0 ≡ carried (2 * (length (C .inputs) + 1 + j)) (getD (C .resets) j 0)
+    unfolding carry
+    reset-is j h =
+        let own : firstLatch (length (C .inputs)) + 2 * j ≡ 2 * (length (C .inputs) + 1 + j) = omega arith in
+        reset-word j h ∙ carried-at (firstLatch (length (C .inputs))) (C .resets) j (omega (arith, resets))
+        ∙ ap (λ (x : ℕ). carried x (getD (C .resets) j 0)) own
+
     scratch-filled : Filled (scratchWords C) 0 (l .scratch) (outcome l .scratch)
     scratch-filled =
         let is : outcome l .scratch ≡ onto (zeros (scratchWords C)) (l .scratch) = ap (λ (o : Outcome). o .scratch) (success-of l w e) in
@@ -223,6 +248,7 @@ module _ (l : Lent) (w : Work) (e : conclusion l ≡ reached w) where
           sources = source-cell;
           unnamed = unnamed-cell;
           nexts = λ j h. image-cell (getD (C .nexts) j 0) _ .0 (S.next-image l w e j (omega (arith, latches))) .2;
+          resets = reset-is;
           roots = λ j h. image-cell (getD (C .roots) j 0) _ .0 (S.root-image l w e j h) .2;
           gates = new-gate;
           tail = λ i h k. tail-word i (omega arith) k;
@@ -232,6 +258,10 @@ module _ (l : Lent) (w : Work) (e : conclusion l ≡ reached w) where
     images-length : (cs : List ℕ) → length (imagesIn (w .images) cs) ≡ length cs
     unfolding imagesIn
     images-length cs = length-map cs (λ c. codeOf (imageIn (w .images) c))
+
+    carry-is : carry ≡ carriedFrom (firstLatch (length (C .inputs))) (C .resets)
+    unfolding carry
+    carry-is = refl
 
     -- the ordered circuit of the walk stands in the lists
     pub holds : Holds l (outcome l) s (orderedOf C w)
@@ -246,6 +276,8 @@ module _ (l : Lent) (w : Work) (e : conclusion l ≡ reached w) where
               (ap (λ (o : Outcome). getD (o .nextImages) j 0) (success-of l w e)
               ∙ onto-at (imagesIn (w .images) (C .nexts)) (l .nextImages) j 0 (omega (arith, images-length (C .nexts), latches))
               (omega (arith, images-length (C .nexts), latches, room .nexts)));
+          resetCount = carried-length (firstLatch (length (C .inputs))) (C .resets) ∙ sym resets;
+          resets = λ j h. sym (subst (λ (x : List ℕ). getD (outcome l .resetImages) j 0 ≡ getD x j 0) carry-is (reset-word j h));
           made = sym sums;
           gates = λ j h. let i : j < length (w .made) = omega arith in ap₂ pair (sym (larger-word j i)) (sym (smaller-word j i));
           counts = refl;

@@ -1,17 +1,18 @@
--- What checks 4, 5 and 6 say: each names the first offender of its list, and finds none exactly where there is none. Assumes nothing.
-use Prim.Native.Nat.{ℕ, _≤_}
-use mathlib.Core.Path.{_≡_, refl, _∙_, ap, subst, subst⁻¹}
-use mathlib.Core.Logic.{_⊎_, inl, inr}
-use mathlib.Core.Bool.{Bool, true, false, cond}
+-- What checks 4, 22, 5 and 6 say: each names the first offender of its list, and finds none exactly where there is none. Assumes nothing.
+use Prim.Native.Nat.{ℕ, zero, suc, _<_, _≤_}
+use mathlib.Core.Path.{_≡_, refl, sym, _∙_, ap, subst, subst⁻¹}
+use mathlib.Core.Logic.{_⊎_, inl, inr, _↔_}
+use mathlib.Core.Bool.{Bool, true, false, cond, _||_}
 use mathlib.Core.Option.{Option, none, some}
 use mathlib.Core.List.{List, [], _∷_, _++_, map}
 use native.Mathlib.Omega.{arith}
-use lib.Dec.{leb}
+use lib.Dec.{eqb, leb}
+use lib.ListN.{length, getD}
 use Rattle.lit.specs.Code.{var}
 use Rattle.circuit.specs.Graph.{In, Distinct, Gate, outVar}
-use Rattle.circuit.specs.Circuit.{firstOver, elem, firstAgain}
-use Rattle.circuit.specs.Claims.{FirstOver, FirstAgain}
-use Rattle.circuit.proofs.Tests.{AtMost, atMost, above, leTest}
+use Rattle.circuit.specs.Circuit.{firstOver, isReset, firstStray, elem, firstAgain}
+use Rattle.circuit.specs.Claims.{IsReset, AllReset, FirstOver, FirstStray, FirstAgain}
+use Rattle.circuit.proofs.Tests.{AtMost, atMost, above, leTest, Same, same, other, sameTest, lt-or}
 use Rattle.circuit.proofs.Lists.{In-left, In-right, In-cases, Distinct-left, Distinct-right, Distinct-apart, Distinct-join, Elem, inside, outside, elemTest}
 
 pub data Over (bound : ℕ) (cs : List ℕ) : Option ℕ → Type 0 where
@@ -38,6 +39,110 @@ overTest bound (c ∷ cs) = go (leb c bound) (leTest c bound) (firstOver bound c
           within = all h (k .before) (k .within);
         })
     go false (above h) o v = oneOver c (record { before = []; after = cs; splits = refl; isOver = h; within = λ x k. absurd k })
+
+-- a reset is 0, 1 or the latch's own literal, or it is not
+pub data ResetIs (own r : ℕ) : Bool → Type 0 where
+  isOne : IsReset own r → ResetIs own r true
+  isNone : (IsReset own r → ⊥) → ResetIs own r false
+
+pub resetTest : (own r : ℕ) → ResetIs own r (isReset own r)
+resetTest own r = go (leb r 1) (leTest r 1) (eqb r own) (sameTest r own)
+  where
+    low : (x : ℕ) → x ≤ 1 → (x ≡ 0) ⊎ ((x ≡ 1) ⊎ (x ≡ own))
+    low zero h = inl refl
+    low (suc zero) h = inr (inl refl)
+    low (suc (suc x)) h = absurd (omega arith)
+
+    none-of : 1 < r → (r ≡ own → ⊥) → IsReset own r → ⊥
+    none-of h n (inl e) = omega arith
+    none-of h n (inr (inl e)) = omega arith
+    none-of h n (inr (inr e)) = n e
+
+    go : (b : Bool) → AtMost r 1 b → (c : Bool) → Same r own c → ResetIs own r (b || c)
+    go true (atMost h) c s = isOne (low r h)
+    go false (above h) true (same e) = isOne (inr (inr e))
+    go false (above h) false (other n) = isNone (none-of h n)
+
+pub is-reset : (own r : ℕ) → (isReset own r ≡ true) ↔ IsReset own r
+is-reset own r = (to (isReset own r) (resetTest own r), from (isReset own r) (resetTest own r))
+  where
+    to : (b : Bool) → ResetIs own r b → b ≡ true → IsReset own r
+    to b (isOne h) e = h
+    to b (isNone n) e = absurd (let z : _≡_ {A = ℕ} 0 1 = cc in omega arith)
+
+    from : (b : Bool) → ResetIs own r b → IsReset own r → b ≡ true
+    from b (isOne h) k = refl
+    from b (isNone n) k = absurd (n k)
+
+pub is-stray : (own r : ℕ) → (isReset own r ≡ false) ↔ (IsReset own r → ⊥)
+is-stray own r = (to (isReset own r) (resetTest own r), from (isReset own r) (resetTest own r))
+  where
+    to : (b : Bool) → ResetIs own r b → b ≡ false → IsReset own r → ⊥
+    to b (isOne h) e = absurd (let z : _≡_ {A = ℕ} 0 1 = cc in omega arith)
+    to b (isNone n) e = n
+
+    from : (b : Bool) → ResetIs own r b → (IsReset own r → ⊥) → b ≡ false
+    from b (isOne h) n = absurd (n h)
+    from b (isNone n) k = refl
+
+pub data Stray (ss rs : List ℕ) : Option ℕ → Type 0 where
+  noneStray : AllReset ss rs → Stray ss rs none
+  oneStray : (r : ℕ) → FirstStray ss rs r → Stray ss rs (some r)
+
+-- where a latch has no reset in the list, it counts as 0
+pub strayTest : (ss rs : List ℕ) → Stray ss rs (firstStray ss rs)
+strayTest [] rs = noneStray (λ j h. absurd (omega arith))
+strayTest (s ∷ ss) [] = noneStray (λ j h. inl refl)
+strayTest (s ∷ ss) (r ∷ rs) = go (isReset s r) (resetTest s r) (firstStray ss rs) (strayTest ss rs)
+  where
+    first : IsReset s r → AllReset ss rs → AllReset (s ∷ ss) (r ∷ rs)
+    first h f zero k = h
+    first h f (suc j) k = f j (omega arith)
+
+    before : IsReset s r → (n : ℕ) → ((j : ℕ) → j < n → IsReset (getD ss j 0) (getD rs j 0))
+        → (j : ℕ) → j < suc n → IsReset (getD (s ∷ ss) j 0) (getD (r ∷ rs) j 0)
+    before h n f zero k = h
+    before h n f (suc j) k = f j (omega arith)
+
+    go : (b : Bool) → ResetIs s r b → (o : Option ℕ) → Stray ss rs o → Stray (s ∷ ss) (r ∷ rs) (cond b o (some r))
+    go true (isOne h) o (noneStray f) = noneStray (first h f)
+    go true (isOne h) o (oneStray x k) =
+        oneStray x
+        (record {
+          place = suc (k .place);
+          inside = omega (arith, k .inside);
+          isThere = k .isThere;
+          isStray = k .isStray;
+          before = before h (k .place) (k .before);
+        })
+    go false (isNone n) o v =
+        oneStray r (record { place = 0; inside = omega arith; isThere = refl; isStray = n; before = λ j h. absurd (omega arith) })
+
+-- where every latch has its reset, there is no first that has not
+pub no-stray : (ss rs : List ℕ) (r : ℕ) → FirstStray ss rs r → AllReset ss rs → ⊥
+no-stray ss rs r k f = k .isStray (subst⁻¹ (IsReset (getD ss (k .place) 0)) (k .isThere) (f (k .place) (k .inside)))
+
+-- neither of two places is before the other
+pub same-place : (i j : ℕ) → ((i < j) → ⊥) → ((j < i) → ⊥) → i ≡ j
+same-place i j f g = cases (lt-or i j) (lt-or j i)
+  where
+    cases : (i < j) ⊎ (j ≤ i) → (j < i) ⊎ (i ≤ j) → i ≡ j
+    cases (inl h) r = absurd (f h)
+    cases (inr h) (inl r) = absurd (g r)
+    cases (inr h) (inr r) = omega arith
+
+-- the first that is none is the one that check 22 names
+pub is-first-stray : (ss rs : List ℕ) (r : ℕ) → FirstStray ss rs r → firstStray ss rs ≡ some r
+is-first-stray ss rs r k = go (firstStray ss rs) (strayTest ss rs)
+  where
+    go : (o : Option ℕ) → Stray ss rs o → o ≡ some r
+    go o (noneStray f) = absurd (no-stray ss rs r k f)
+    go o (oneStray r′ k′) =
+        let e = same-place (k′ .place) (k .place) (λ h. stray-at k′ (k .before (k′ .place) h)) (λ h. stray-at k (k′ .before (k .place) h)) in
+        ap some (k′ .isThere ∙ ap (λ (j : ℕ). getD rs j 0) e ∙ sym (k .isThere))
+      where
+        stray-at : {x : ℕ} (m : FirstStray ss rs x) → IsReset (getD ss (m .place) 0) (getD rs (m .place) 0) → ⊥
+        stray-at m h = m .isStray (subst⁻¹ (IsReset (getD ss (m .place) 0)) (m .isThere) h)
 
 abbrev pub Apart : List ℕ → List ℕ → Type 0
 Apart s t = (v : ℕ) → In v s → In v t → ⊥

@@ -204,11 +204,12 @@ module _ (n : ℕ) where
               sizes =
                   record {
                     within = record { top = small; inputs = omega arith; latches = omega arith; gates = omega (arith, gates-length n 1); roots = omega arith };
-                    agrees = record { roots = refl; latches = refl; words = omega (arith, links-length n 1) };
+                    agrees = record { roots = refl; latches = refl; resets = refl; words = omega (arith, links-length n 1) };
                     roomy =
                         record {
                           map = omega (arith, length-replicate {A = ℕ} (n + 1 + 1 + 1) untouchedCell);
                           nexts = omega arith;
+                          resets = omega arith;
                           roots = omega arith;
                           gates =
                               omega (arith, gates-length n 1, links-length n 1, length-replicate {A = ℕ} (2 * (length (links n 1) / 3) + 1) untouchedCell);
@@ -227,8 +228,10 @@ module _ (n : ℕ) where
                     gates = λ g h. let r = gates-within n 1 g h in (omega (arith, r .1), omega (arith, r .2), omega (arith, r .3));
                     states = λ c h. absurd h;
                     nexts = λ c h. absurd h;
+                    resets = λ c h. absurd h;
                     roots = roots-within;
                   };
+              resets = λ j h. absurd (omega arith);
             };
         once = (λ h. absurd (omega (arith, vars-from n 1 0 h)), vars-distinct n 1);
         gates = gates-length n 1;

@@ -7,19 +7,22 @@ pub use Rattle.circuit.proofs.Pins.{pins, limits-pinned, fields-pinned,
 pub use Rattle.circuit.proofs.Improvements.{improvements}
 pub use Rattle.circuit.proofs.Told.{told}
 pub use Rattle.circuit.proofs.Deepest.{as-deep-as-can-be}
+pub use Rattle.circuit.proofs.Resets.{resets-unseen, as-before, stray-exactly, reset-exactly, zeros-carried}
 use Prim.Native.Nat.{ℕ, _≤_}
 use mathlib.Core.Path.{_≡_, sym, _∙_, subst⁻¹}
 use mathlib.Core.Logic.{_↔_}
 use mathlib.Core.Bool.{Bool, false}
 use mathlib.Core.Option.{some}
+use mathlib.Core.List.{List}
+use lib.ListN.{length, getD}
 use Rattle.circuit.specs.declared.Summary.{Summary}
 use Rattle.circuit.specs.declared.Answer.the-variants.{Renumbered}
 use Rattle.circuit.specs.Graph.{In, Graph, DefinedOnce, Means}
 use Rattle.circuit.specs.Walk.{folded}
 use Rattle.circuit.specs.Circuit.{Circuit, graph, walked}
-use Rattle.circuit.specs.Ordered.{Ordered, sourcesOf, orderedGraph, InOrder}
+use Rattle.circuit.specs.Ordered.{Ordered, firstLatch, countFrom, sourcesOf, orderedGraph, InOrder}
 use Rattle.circuit.specs.Outcome.{Lent, Outcome, circuitOf, tooBig, misshapen, tooShort, outcome, held}
-use Rattle.circuit.specs.Claims.{Within, Agrees, Roomy, Passes, SameValue, Folds, Holds, IsLent, IsWalked}
+use Rattle.circuit.specs.Claims.{Within, Agrees, Roomy, AllReset, Passes, firstValue, SameValue, Folds, Holds, IsLent, IsWalked}
 use Rattle.circuit.specs.Tested.{Tested}
 use Rattle.circuit.specs.Demands.{Demands, AfterSuccess, NeverTooDeep}
 use Rattle.circuit.proofs.Meaning.{means-one}
@@ -56,8 +59,8 @@ module _ (l : Lent) where
   pub walked-exactly : (c : ℕ) → In c (walked C) ↔ IsWalked C c
   walked-exactly = L.walked-exactly C
 
-  -- each of checks 1 to 3 is passed exactly when sizes are within their limits, the lists agree, those lent are long enough; and all of 1 to 4 exactly when
-  -- besides no code of any list is over 2V + 1
+  -- each of checks 1 to 3 is passed exactly when sizes are within their limits, the lists agree, those lent are long enough; and all of 1 to 4 and 22
+  -- exactly when besides no code of any list is over 2V + 1, and every reset is 0, 1 or its latch's own literal
   pub check-1 : (tooBig C ≡ false) ↔ Within C
   check-1 = (O.within l, O.from-within l)
 
@@ -88,6 +91,10 @@ module _ (l : Lent) where
         gatesInOrder = subst⁻¹ (λ (O : Ordered). InOrder (sourcesOf O) (O .gates)) (from .holds) (S.in-order l (from .work) (from .ends));
         nextImages = S.next-image l (from .work) (from .ends);
         rootImages = S.root-image l (from .work) (from .ends);
+        firstValues = λ j h. subst⁻¹ (λ (O : Ordered). firstValue (getD (O .resets) j 0) ≡ firstValue (getD (l .resets) j 0)) (from .holds)
+            (S.first-value l (from .work) (from .ends) j h);
+        resetsPass = subst⁻¹ (λ (O : Ordered). AllReset (countFrom (firstLatch (O .inputs)) (length (O .nexts))) (O .resets)) (from .holds)
+            (S.resets-pass l (from .work) (from .ends));
         made = sizes .0;
         madeFew = sizes .1;
         top = sizes .2;
@@ -107,13 +114,14 @@ module _ (l : Lent) where
       record {
         succeedsExactly = λ p. exactly l (R.tested l p);
         refusalsTrue = R.refusals-true l;
+        earlyOrLate = R.early-or-late;
         earlyRefusalsKeep = R.early l;
         lateRefusalsClear = R.late l;
         pastKept = keeps-past l;
         success = after-success;
       }
 
-  -- where no variable is defined twice, the walk of what passes checks 1 to 4 is never too deep: with two entries a gate it ends first, by success, 7 or 8, and
+  -- where no variable is defined twice, the walk of what passes checks 1 to 4 and 22 is never too deep: with two entries a gate it ends first, by success, 7 or 8, and
   -- any more room gives the same
   pub never-too-deep : Passes l → DefinedOnce (graph C) → NeverTooDeep C
   never-too-deep p once = let t = R.tested l p in D.never-too-deep C (O.limits l (t .fits)) (O.bounds l t) once

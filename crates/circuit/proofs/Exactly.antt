@@ -12,7 +12,7 @@ use Rattle.circuit.specs.Outcome.{Lent, Outcome, circuitOf, summaryOf, o
 use Rattle.circuit.specs.Claims.{AllGrounded}
 use Rattle.circuit.specs.Tested.{Tested}
 use Rattle.circuit.proofs.Renumber.{Answered, answered, why-not}
-use Rattle.circuit.proofs.Outcome.{limits, bounds, success-of, conclusion-of}
+use Rattle.circuit.proofs.Outcome.{limits, clean, success-of, conclusion-of}
 use Rattle.circuit.proofs.Success.{success, facts}
 
 pub exactly : (l : Lent) → Tested l → ((s : Summary) × (outcome l .answer ≡ Renumbered s)) ↔ (DefinedOnce (graph (circuitOf l)) × AllGrounded (circuitOf l))
@@ -25,4 +25,4 @@ exactly l p = (
         → (s : Summary) × (outcome l .answer ≡ Renumbered s)
     go r (reached w) e a =
         (summaryOf (orderedOf (circuitOf l) w), ap (λ (o : Outcome). o .answer) (success-of l w (conclusion-of l (p .fits) ∙ e)))
-    go r (stopped why) e a = absurd (why-not (circuitOf l) why a (bounds l p) (r .0) (r .1))
+    go r (stopped why) e a = absurd (why-not (circuitOf l) why a (clean l p) (r .0) (r .1))

@@ -8,14 +8,14 @@ use lib.ListN.{replicate}
 use Rattle.lit.specs.Code.{literal, variable, flipped}
 use Rattle.circuit.specs.declared.Answer.the-variants.{Renumbered}
 use Rattle.circuit.specs.declared.Image.the-variants.{Absent, Code}
-use Rattle.circuit.specs.declared.Refusal.the-variants.{TooBig, Misshapen, Short, Over, Again, StateAgain, Undefined, Cycle}
+use Rattle.circuit.specs.declared.Refusal.the-variants.{TooBig, Misshapen, Short, Over, Reset, Again, StateAgain, Undefined, Cycle}
 use Rattle.circuit.specs.Refusals.{refusalNumber, refusalLiteral}
 use Rattle.circuit.specs.Map.{entryImage, imageIn, imageOf, store, codeOf}
 use Rattle.circuit.specs.Walk.{firstCode, nextCode, folded, already, settleAs, settleOn, settle, look, throughInputs, walk, walkAll}
-use Rattle.circuit.specs.Circuit.{codes, start, walked, renumber}
+use Rattle.circuit.specs.Circuit.{codes, start, walked, numbered, renumber}
 use Rattle.circuit.specs.Ordered.{imagesIn, orderedOf}
 use Rattle.circuit.specs.Outcome.{Lent, lentOf, outcomeOf, tooBig, misshapen, tooShort, conclusion, after, outcome}
-use Rattle.circuit.specs.Lending.{plain, trimming, hashing, folding, lend, circuit, Example, success, refusal, earlyRefusal}
+use Rattle.circuit.specs.Lending.{plain, trimming, hashing, folding, lendWith, lend, circuit, Example, success, successWith, refusal, earlyRefusal}
 
 -- the root counts: outputs, bad states, constraints, fairness, justice
 abbrev pub outputs : ℕ → List ℕ
@@ -90,28 +90,29 @@ checks =
     ∷ earlyRefusal (circuit plain 1 [] (2 ∷ 0 ∷ 0 ∷ 4 ∷ []) []) Misshapen
     ∷ []
 
--- lists of so many cells lent for a circuit with a latch, a gate and a root, which needs 3, 1, 1, 2 and 12
-abbrev lends : ℕ → ℕ → ℕ → ℕ → ℕ → Lent
-lends m n r g s =
-    lentOf (record { top = variable 2; counts = outputs 1; trim = false; hash = false; fold = false }) [] (2 ∷ []) (4 ∷ []) (4 ∷ 2 ∷ 3 ∷ []) (5 ∷ [])
-    (replicate m 77) (replicate n 77) (replicate r 77) (replicate g 77) (replicate s 77)
+-- lists of so many cells lent for a circuit with a latch, a gate and a root, which needs 3, 1, 1, 1, 2 and 12
+abbrev lends : ℕ → ℕ → ℕ → ℕ → ℕ → ℕ → Lent
+lends m n t r g s =
+    lentOf (record { top = variable 2; counts = outputs 1; trim = false; hash = false; fold = false }) [] (2 ∷ []) (4 ∷ []) (1 ∷ []) (4 ∷ 2 ∷ 3 ∷ []) (5 ∷ [])
+    (replicate m 77) (replicate n 77) (replicate t 77) (replicate r 77) (replicate g 77) (replicate s 77)
 
 -- the largest variable top, root counts that sum to n, and nothing lent
 abbrev bare : ℕ → ℕ → Lent
-bare top n = lentOf (record { top = variable top; counts = outputs n; trim = false; hash = false; fold = false }) [] [] [] [] [] [] [] [] [] []
+bare top n = lentOf (record { top = variable top; counts = outputs n; trim = false; hash = false; fold = false }) [] [] [] [] [] [] [] [] [] [] [] []
 
 -- each list one cell short is 3, and just enough is success; V at its limit passes 1, and one more does not; 1 before 2, and 2 before 3
 abbrev sizes : List Example
 sizes =
     record {
-      lent = lends 3 1 1 2 12;
-      expected = outcomeOf (Renumbered (record { made = 1; top = variable 2 })) (0 ∷ 2 ∷ 4 ∷ []) (4 ∷ []) (5 ∷ []) (3 ∷ 2 ∷ []) (replicate 12 0);
+      lent = lends 3 1 1 1 2 12;
+      expected = outcomeOf (Renumbered (record { made = 1; top = variable 2 })) (0 ∷ 2 ∷ 4 ∷ []) (4 ∷ []) (1 ∷ []) (5 ∷ []) (3 ∷ 2 ∷ []) (replicate 12 0);
     }
-    ∷ earlyRefusal (lends 2 1 1 2 12) Short
-    ∷ earlyRefusal (lends 3 0 1 2 12) Short
-    ∷ earlyRefusal (lends 3 1 0 2 12) Short
-    ∷ earlyRefusal (lends 3 1 1 1 12) Short
-    ∷ earlyRefusal (lends 3 1 1 2 11) Short
+    ∷ earlyRefusal (lends 2 1 1 1 2 12) Short
+    ∷ earlyRefusal (lends 3 0 1 1 2 12) Short
+    ∷ earlyRefusal (lends 3 1 0 1 2 12) Short
+    ∷ earlyRefusal (lends 3 1 1 0 2 12) Short
+    ∷ earlyRefusal (lends 3 1 1 1 1 12) Short
+    ∷ earlyRefusal (lends 3 1 1 1 2 11) Short
     ∷ earlyRefusal (bare 1048575 0) Short
     ∷ earlyRefusal (bare 1048576 0) TooBig
     ∷ earlyRefusal (bare 1048576 1) TooBig
@@ -121,10 +122,46 @@ sizes =
 abbrev pub Computes : List Example → Type 0
 Computes xs = map (λ x. outcome (x .lent)) xs ≡ map (λ x. x .expected) xs
 
-pub examples : Computes unstarred × Computes walks × Computes checks × Computes sizes
-unfolding outcome conclusion tooBig misshapen tooShort after renumber codes walkAll walked start store flipped walk look imageIn entryImage
+-- resets: V, latch states, next states and resets of a circuit with input 2 and root 2
+abbrev latched : ℕ → List ℕ → List ℕ → List ℕ → Lent
+latched top states nexts resets = lendWith plain top (2 ∷ []) states nexts resets [] (outputs 1) (2 ∷ [])
+
+abbrev resets : List Example
+resets =
+    -- latches 4, 7 and 8 with next states 2, 4, 5 and resets 1, 7, 0: the first starts at 1, the second is unset, the third starts at 0
+    successWith (latched 4 (4 ∷ 7 ∷ 8 ∷ []) (2 ∷ 4 ∷ 5 ∷ []) (1 ∷ 7 ∷ 0 ∷ [])) 0 4 (0 ∷ 2 ∷ 4 ∷ 7 ∷ 8 ∷ []) (2 ∷ 4 ∷ 5 ∷ []) (1 ∷ 6 ∷ 0 ∷ []) [] (2 ∷ [])
+    -- an odd state: 5 with reset 5 is unset, with reset 4 it is 22; and so 4 with reset 5
+    ∷ successWith (latched 2 (5 ∷ []) (0 ∷ []) (5 ∷ [])) 0 2 (0 ∷ 2 ∷ 5 ∷ []) (0 ∷ []) (4 ∷ []) [] (2 ∷ [])
+    ∷ earlyRefusal (latched 2 (5 ∷ []) (0 ∷ []) (4 ∷ [])) (Reset (literal 4))
+    ∷ earlyRefusal (latched 2 (4 ∷ []) (0 ∷ []) (5 ∷ [])) (Reset (literal 5))
+    -- the input's literal is no reset, and that of another latch is none; the first of two is named
+    ∷ earlyRefusal (latched 2 (4 ∷ []) (0 ∷ []) (2 ∷ [])) (Reset (literal 2))
+    ∷ earlyRefusal (latched 3 (4 ∷ 6 ∷ []) (0 ∷ 0 ∷ []) (4 ∷ 4 ∷ [])) (Reset (literal 4))
+    ∷ earlyRefusal (latched 3 (4 ∷ 6 ∷ []) (0 ∷ 0 ∷ []) (6 ∷ 4 ∷ [])) (Reset (literal 6))
+    -- 4 before 22: a root over 2V + 1, and a later latch's next state; the reset itself over it is 4, after its latch's next state
+    ∷ earlyRefusal (lendWith plain 1 [] (2 ∷ []) (0 ∷ []) (3 ∷ []) [] (outputs 1) (4 ∷ [])) (Over (literal 4))
+    ∷ earlyRefusal (latched 3 (4 ∷ 6 ∷ []) (0 ∷ 8 ∷ []) (2 ∷ 0 ∷ [])) (Over (literal 8))
+    ∷ earlyRefusal (latched 2 (4 ∷ []) (0 ∷ []) (6 ∷ [])) (Over (literal 6))
+    ∷ earlyRefusal (latched 2 (4 ∷ []) (7 ∷ []) (6 ∷ [])) (Over (literal 7))
+    ∷ earlyRefusal (latched 3 (4 ∷ 9 ∷ []) (0 ∷ 0 ∷ []) (8 ∷ 0 ∷ [])) (Over (literal 8))
+    -- 22 before 5, before 6 and before 7
+    ∷ earlyRefusal (lendWith plain 2 (2 ∷ 2 ∷ []) (4 ∷ []) (0 ∷ []) (2 ∷ []) [] (outputs 0) []) (Reset (literal 2))
+    ∷ earlyRefusal (latched 2 (2 ∷ []) (0 ∷ []) (4 ∷ [])) (Reset (literal 4))
+    ∷ earlyRefusal (latched 3 (4 ∷ []) (6 ∷ []) (6 ∷ [])) (Reset (literal 6))
+    -- and without it 5, 6 and 7 are given, and clear the reset images
+    ∷ refusal (lendWith plain 2 (2 ∷ 2 ∷ []) (4 ∷ []) (0 ∷ []) (4 ∷ []) [] (outputs 0) []) (Again (literal 2))
+    ∷ refusal (latched 2 (2 ∷ []) (0 ∷ []) (2 ∷ [])) (StateAgain (literal 2))
+    ∷ refusal (latched 3 (4 ∷ []) (6 ∷ []) (4 ∷ [])) (Undefined (literal 6))
+    -- 2: a reset too few, a reset too many; and 2 before 22
+    ∷ earlyRefusal (latched 2 (4 ∷ []) (0 ∷ []) []) Misshapen
+    ∷ earlyRefusal (latched 2 (4 ∷ []) (0 ∷ []) (0 ∷ 0 ∷ [])) Misshapen
+    ∷ earlyRefusal (latched 2 (4 ∷ []) (0 ∷ []) (2 ∷ 0 ∷ [])) Misshapen
+    ∷ []
+
+pub examples : Computes unstarred × Computes walks × Computes checks × Computes sizes × Computes resets
+unfolding outcome conclusion tooBig misshapen tooShort after renumber numbered codes walkAll walked start store flipped walk look imageIn entryImage
     throughInputs settle settleOn settleAs already nextCode firstCode folded codeOf orderedOf imagesIn
-examples = (refl, refl, refl, refl)
+examples = (refl, refl, refl, refl, refl)
 
 -- a code over 2V + 1, or past the map, or of a variable whose entry is the word for no image, has no image; an odd code flips the entry's low bit
 pub lookups :
@@ -136,9 +173,11 @@ lookups = (refl, refl, refl, refl, refl, refl)
 -- document 01's numbers, and the literal beside each
 pub numbers :
     (map refusalNumber
-    (TooBig ∷ Misshapen ∷ Short ∷ Over (literal 9) ∷ Again (literal 9) ∷ StateAgain (literal 9) ∷ Undefined (literal 9) ∷ Cycle (literal 9) ∷ [])
-    ≡ (1 ∷ 2 ∷ 3 ∷ 4 ∷ 5 ∷ 6 ∷ 7 ∷ 8 ∷ []))
+    (TooBig ∷ Misshapen ∷ Short ∷ Over (literal 9) ∷ Reset (literal 9) ∷ Again (literal 9) ∷ StateAgain (literal 9) ∷ Undefined (literal 9)
+    ∷ Cycle (literal 9) ∷ [])
+    ≡ (1 ∷ 2 ∷ 3 ∷ 4 ∷ 22 ∷ 5 ∷ 6 ∷ 7 ∷ 8 ∷ []))
     × (map (λ r. refusalLiteral r .0)
-    (TooBig ∷ Misshapen ∷ Short ∷ Over (literal 9) ∷ Again (literal 9) ∷ StateAgain (literal 9) ∷ Undefined (literal 9) ∷ Cycle (literal 9) ∷ [])
-    ≡ (0 ∷ 0 ∷ 0 ∷ 9 ∷ 9 ∷ 9 ∷ 9 ∷ 9 ∷ []))
+    (TooBig ∷ Misshapen ∷ Short ∷ Over (literal 9) ∷ Reset (literal 9) ∷ Again (literal 9) ∷ StateAgain (literal 9) ∷ Undefined (literal 9)
+    ∷ Cycle (literal 9) ∷ [])
+    ≡ (0 ∷ 0 ∷ 0 ∷ 9 ∷ 9 ∷ 9 ∷ 9 ∷ 9 ∷ 9 ∷ []))
 numbers = (refl, refl)

@@ -12,7 +12,7 @@ use Rattle.circuit.specs.declared.Refusal.the-variants.{Cycle}
 use Rattle.circuit.specs.Graph.{Gate, gateFor}
 use Rattle.circuit.specs.Map.{entryImage, imageIn, store, codeOf}
 use Rattle.circuit.specs.Walk.{Net, sourceCount, Pair, Work, firstCode, nextCode, folded, orElse, madeIf, already, settleAs, settleOn, settle, Out, reached, stopped, Look, mapped, refused, enter, isMiddle, lookAt, look, andThen, throughInputs, answer, noRoom, walk, stackRoom, walkAll}
-use Rattle.circuit.specs.Circuit.{Circuit, graph, net, gateOutputs, codes, elem, start, walked, renumber}
+use Rattle.circuit.specs.Circuit.{Circuit, graph, net, gateOutputs, codes, elem, start, walked, numbered, renumber}
 use Rattle.circuit.specs.Ordered.{imagesIn}
 use Rattle.circuit.specs.Outcome.{Lent, circuitOf, pairWords, tooBig, misshapen, tooShort, conclusion}
 use Rattle.circuit.specs.Lending.{trimming, folding, trimFolding, lend, circuit}
@@ -154,6 +154,6 @@ pub improvements :
     × ((conclusion fairnessAndJustice ≡ done (0 ∷ 4 ∷ 2 ∷ []) (pair 1 1 ∷ pair 0 0 ∷ []))
     × (renumberJusticeFirst fairnessAndJustice ≡ done (0 ∷ 2 ∷ 4 ∷ []) (pair 0 0 ∷ pair 1 1 ∷ [])))
     × ((conclusion unused ≡ done (0 ∷ 2 ∷ 4 ∷ 0 ∷ []) (pair 3 2 ∷ [])) × (dropsUnused unused (conclusion unused) ≡ done (0 ∷ 2 ∷ 4 ∷ 0 ∷ []) []))
-unfolding conclusion tooBig misshapen tooShort renumber codes walkAll walked start store flipped walk look imageIn entryImage throughInputs settle
+unfolding conclusion tooBig misshapen tooShort renumber numbered codes walkAll walked start store flipped walk look imageIn entryImage throughInputs settle
     settleOn settleAs already nextCode firstCode folded codeOf imagesIn
 improvements = ((refl, refl), (refl, refl), (refl, refl), (refl, refl), (refl, refl))

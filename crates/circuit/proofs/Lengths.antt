@@ -6,17 +6,18 @@ use mathlib.Core.List.{List, _++_}
 use native.Mathlib.Omega.{arith}
 use lib.ListN.{length, replicate, length-append, length-map, length-replicate, getD-replicate}
 use Rattle.circuit.specs.declared.Refusal.{Refusal}
-use Rattle.circuit.specs.declared.Refusal.the-variants.{TooBig, Misshapen, Short, Over, Again, StateAgain, Undefined, Cycle}
+use Rattle.circuit.specs.declared.Refusal.the-variants.{TooBig, Misshapen, Short, Over, Reset, Again, StateAgain, Undefined, Cycle}
 use Rattle.circuit.specs.Map.{noImage, imageIn, codeOf}
 use Rattle.circuit.specs.Walk.{Work, Out, reached, stopped}
 use Rattle.circuit.specs.Circuit.{Circuit}
-use Rattle.circuit.specs.Ordered.{imagesIn, orderedOf}
+use Rattle.circuit.specs.Ordered.{imagesIn, carriedFrom, firstLatch, orderedOf}
 use Rattle.circuit.specs.Outcome.{Lent, circuitOf, mapWords, scratchWords, onto, zeros, pairWords, conclusion, written, cleared, untouched, after, outcome}
 use Rattle.circuit.specs.Claims.{Roomy, Keeps, KeepsPast, Filled}
 use Rattle.circuit.specs.Tested.{Fits}
 use Rattle.circuit.proofs.Settled.{settled-le}
 use Rattle.circuit.proofs.Renumber.{Done}
 use Rattle.circuit.proofs.Words.{pairs-length}
+use Rattle.circuit.proofs.Carried.{carried-length}
 use Rattle.circuit.proofs.Outcome.{WhyLent, agrees, roomy, Concluded, concluded, onto-length, onto-at, onto-past}
 
 same : (n : ℕ) (lent : List ℕ) → Keeps n lent lent
@@ -45,6 +46,7 @@ module _ (l : Lent) where
       record {
         map = same (mapWords C) (l .map);
         nexts = same (length (C .states)) (l .nextImages);
+        resets = same (length (C .states)) (l .resetImages);
         roots = same (length (C .roots)) (l .rootImages);
         gates = same (2 * length (C .gates)) (l .gatesOut);
         scratch = same (scratchWords C) (l .scratch);
@@ -62,6 +64,7 @@ module _ (l : Lent) where
         record {
           map = onto-keeps (replicate (mapWords C) noImage) (l .map) (mapWords C) (length-replicate (mapWords C) noImage) (room .map);
           nexts = zeros-keep (length (C .states)) (l .nextImages) (room .nexts);
+          resets = zeros-keep (length (C .states)) (l .resetImages) (room .resets);
           roots = zeros-keep (length (C .roots)) (l .rootImages) (room .roots);
           gates = zeros-keep (2 * length (C .gates)) (l .gatesOut) (room .gates);
           scratch = zeros-keep (scratchWords C) (l .scratch) (room .scratch);
@@ -91,6 +94,9 @@ module _ (l : Lent) where
           nexts =
               onto-keeps (imagesIn (w .images) (C .nexts)) (l .nextImages) (length (C .states))
               (images-length w (C .nexts) ∙ sym (agrees l (f .two) .latches)) (room .nexts);
+          resets =
+              onto-keeps (carriedFrom (firstLatch (length (C .inputs))) (C .resets)) (l .resetImages) (length (C .states))
+              (carried-length (firstLatch (length (C .inputs))) (C .resets) ∙ sym (agrees l (f .two) .resets)) (room .resets);
           roots = onto-keeps (imagesIn (w .images) (C .roots)) (l .rootImages) (length (C .roots)) (images-length w (C .roots)) (room .roots);
           gates =
               onto-keeps (pairWords (w .made) ++ zeros (2 * (length (C .gates) - length (w .made)))) (l .gatesOut) (2 * length (C .gates))
@@ -104,6 +110,7 @@ module _ (l : Lent) where
   after-refusal Misshapen k = after-early Misshapen
   after-refusal Short k = after-early Short
   after-refusal (Over d) k = after-early (Over d)
+  after-refusal (Reset d) k = after-early (Reset d)
   after-refusal (Again d) k = after-late (k .0 .fits) (Again d)
   after-refusal (StateAgain d) k = after-late (k .0 .fits) (StateAgain d)
   after-refusal (Undefined d) k = after-late (k .0 .fits) (Undefined d)

@@ -12,6 +12,8 @@ pub mod Lengths
 pub mod Outcome
 pub mod Renumber
 pub mod Checks
+pub mod Carried
+pub mod Resets
 pub mod Start
 pub mod InRoom
 pub mod Walk

@@ -45,39 +45,55 @@ codes-of-gates b (g ∷ gs) f c (inr (inr (inl e))) = omega (arith, f g (inl ref
 codes-of-gates b (g ∷ gs) f c (inr (inr (inr h))) = codes-of-gates b gs (λ g′ k. f g′ (inr k)) c h
 
 -- latches, and their codes
-states-of-codes : (b : ℕ) (ss ns : List ℕ) → length ss ≡ length ns → AllWithin b (latchCodes ss ns) → AllWithin b ss
-states-of-codes b [] ns e f c h = absurd h
-states-of-codes b (s ∷ ss) [] e f c h = absurd (omega arith)
-states-of-codes b (s ∷ ss) (n ∷ ns) e f c (inl k) = f c (inl k)
-states-of-codes b (s ∷ ss) (n ∷ ns) e f c (inr h) = states-of-codes b ss ns (omega arith) (λ x k. f x (inr (inr k))) c h
+-- the k-th codes of the latches are among them
+pub LatchesWithin : ℕ → List ℕ → List ℕ → List ℕ → Type 0
+LatchesWithin b ss ns rs = AllWithin b ss × AllWithin b ns × AllWithin b rs
 
-nexts-of-codes : (b : ℕ) (ss ns : List ℕ) → length ss ≡ length ns → AllWithin b (latchCodes ss ns) → AllWithin b ns
-nexts-of-codes b [] [] e f c h = absurd h
-nexts-of-codes b [] (n ∷ ns) e f c h = absurd (omega arith)
-nexts-of-codes b (s ∷ ss) [] e f c h = absurd h
-nexts-of-codes b (s ∷ ss) (n ∷ ns) e f c (inl k) = f c (inr (inl k))
-nexts-of-codes b (s ∷ ss) (n ∷ ns) e f c (inr h) = nexts-of-codes b ss ns (omega arith) (λ x k. f x (inr (inr k))) c h
+within-cons : (b x : ℕ) (l : List ℕ) → x ≤ b → AllWithin b l → AllWithin b (x ∷ l)
+within-cons b x l p q y (inl e) = omega arith
+within-cons b x l p q y (inr m) = q y m
 
-codes-of-latches : (b : ℕ) (ss ns : List ℕ) → AllWithin b ss → AllWithin b ns → AllWithin b (latchCodes ss ns)
-codes-of-latches b [] ns f g c h = absurd h
-codes-of-latches b (s ∷ ss) [] f g c h = absurd h
-codes-of-latches b (s ∷ ss) (n ∷ ns) f g c (inl e) = f c (inl e)
-codes-of-latches b (s ∷ ss) (n ∷ ns) f g c (inr (inl e)) = g c (inl e)
-codes-of-latches b (s ∷ ss) (n ∷ ns) f g c (inr (inr h)) = codes-of-latches b ss ns (λ x k. f x (inr k)) (λ x k. g x (inr k)) c h
+latches-of-codes : (b : ℕ) (ss ns rs : List ℕ) → length ss ≡ length ns → length ss ≡ length rs → AllWithin b (latchCodes ss ns rs)
+    → LatchesWithin b ss ns rs
+unfolding LatchesWithin
+latches-of-codes b [] [] [] e e′ f = (f, f, f)
+latches-of-codes b [] (n ∷ ns) rs e e′ f = absurd (omega arith)
+latches-of-codes b [] [] (r ∷ rs) e e′ f = absurd (omega arith)
+latches-of-codes b (s ∷ ss) [] rs e e′ f = absurd (omega arith)
+latches-of-codes b (s ∷ ss) (n ∷ ns) [] e e′ f = absurd (omega arith)
+latches-of-codes b (s ∷ ss) (n ∷ ns) (r ∷ rs) e e′ f =
+    let rest = latches-of-codes b ss ns rs (omega arith) (omega arith) (λ x k. f x (inr (inr (inr k)))) in (
+      within-cons b s ss (f s (inl refl)) (rest .0),
+      within-cons b n ns (f n (inr (inl refl))) (rest .1),
+      within-cons b r rs (f r (inr (inr (inl refl)))) (rest .2),
+    )
 
-pub bounded-of : (C : Circuit) → length (C .states) ≡ length (C .nexts) → InBounds C → Bounded C
-unfolding codes
-bounded-of C e b =
+codes-of-latches : (b : ℕ) (ss ns rs : List ℕ) → AllWithin b ss → AllWithin b ns → AllWithin b rs → AllWithin b (latchCodes ss ns rs)
+codes-of-latches b [] ns rs f g k c h = absurd h
+codes-of-latches b (s ∷ ss) [] rs f g k c h = absurd h
+codes-of-latches b (s ∷ ss) (n ∷ ns) [] f g k c h = absurd h
+codes-of-latches b (s ∷ ss) (n ∷ ns) (r ∷ rs) f g k c (inl e) = f c (inl e)
+codes-of-latches b (s ∷ ss) (n ∷ ns) (r ∷ rs) f g k c (inr (inl e)) = g c (inl e)
+codes-of-latches b (s ∷ ss) (n ∷ ns) (r ∷ rs) f g k c (inr (inr (inl e))) = k c (inl e)
+codes-of-latches b (s ∷ ss) (n ∷ ns) (r ∷ rs) f g k c (inr (inr (inr h))) =
+    codes-of-latches b ss ns rs (λ x m. f x (inr m)) (λ x m. g x (inr m)) (λ x m. k x (inr m)) c h
+
+pub bounded-of : (C : Circuit) → length (C .states) ≡ length (C .nexts) → length (C .states) ≡ length (C .resets) → InBounds C → Bounded C
+unfolding codes LatchesWithin
+bounded-of C e e′ b =
     let top : ℕ = 2 * C .top + 1 in
-    let past-inputs : AllWithin top (gateCodes (C .gates) ++ (latchCodes (C .states) (C .nexts) ++ C .roots)) = within-right top (C .inputs) _ b in
-    let past-gates : AllWithin top (latchCodes (C .states) (C .nexts) ++ C .roots) = within-right top (gateCodes (C .gates)) _ past-inputs in
-    let latches : AllWithin top (latchCodes (C .states) (C .nexts)) = within-left top (latchCodes (C .states) (C .nexts)) (C .roots) past-gates in
+    let all : List ℕ = latchCodes (C .states) (C .nexts) (C .resets) in
+    let past-inputs : AllWithin top (gateCodes (C .gates) ++ (all ++ C .roots)) = within-right top (C .inputs) _ b in
+    let past-gates : AllWithin top (all ++ C .roots) = within-right top (gateCodes (C .gates)) _ past-inputs in
+    let latches : LatchesWithin top (C .states) (C .nexts) (C .resets)
+    = latches-of-codes top (C .states) (C .nexts) (C .resets) e e′ (within-left top all (C .roots) past-gates) in
     record {
       inputs = within-left top (C .inputs) _ b;
       gates = gates-of-codes top (C .gates) (within-left top (gateCodes (C .gates)) _ past-inputs);
-      states = states-of-codes top (C .states) (C .nexts) e latches;
-      nexts = nexts-of-codes top (C .states) (C .nexts) e latches;
-      roots = within-right top (latchCodes (C .states) (C .nexts)) (C .roots) past-gates;
+      states = latches .0;
+      nexts = latches .1;
+      resets = latches .2;
+      roots = within-right top all (C .roots) past-gates;
     }
 
 pub of-bounded : (C : Circuit) → Bounded C → InBounds C
@@ -86,7 +102,8 @@ of-bounded C b =
     let top : ℕ = 2 * C .top + 1 in
     within-join top (C .inputs) _ (b .inputs)
     (within-join top (gateCodes (C .gates)) _ (codes-of-gates top (C .gates) (b .gates))
-    (within-join top (latchCodes (C .states) (C .nexts)) (C .roots) (codes-of-latches top (C .states) (C .nexts) (b .states) (b .nexts)) (b .roots)))
+    (within-join top (latchCodes (C .states) (C .nexts) (C .resets)) (C .roots)
+    (codes-of-latches top (C .states) (C .nexts) (C .resets) (b .states) (b .nexts) (b .resets)) (b .roots)))
 
 -- the first code over the bound in two lists together: in the first, or in the second where none of the first is over
 first-of : (b c : ℕ) (xs ys : List ℕ) → FirstOver b (xs ++ ys) c → FirstOver b xs c ⊎ (AllWithin b xs × FirstOver b ys c)
@@ -168,58 +185,61 @@ first-gate b c (g ∷ gs) ys k = here (λ f. first-gate b c gs ys f) (first-of b
     here rec (inr f) = later (f .0) (rec (f .1))
 
 -- among latches: in the codes of one latch, where those before it have none
-pub record AtLatch (b c : ℕ) (ss ns : List ℕ) : Type 0 where
+pub record AtLatch (b c : ℕ) (ss ns rs : List ℕ) : Type 0 where
   pub place : ℕ
   pub inside : place < length ss
-  pub within : (j : ℕ) → j < place → (getD ss j 0 ≤ b) × (getD ns j 0 ≤ b)
-  pub first : FirstOver b (getD ss place 0 ∷ getD ns place 0 ∷ []) c
+  pub within : (j : ℕ) → j < place → (getD ss j 0 ≤ b) × (getD ns j 0 ≤ b) × (getD rs j 0 ≤ b)
+  pub first : FirstOver b (getD ss place 0 ∷ getD ns place 0 ∷ getD rs place 0 ∷ []) c
 
-first-latch : (b c : ℕ) (ss ns ys : List ℕ) → length ss ≡ length ns → FirstOver b (latchCodes ss ns ++ ys) c
-    → AtLatch b c ss ns ⊎ (AllWithin b ss × AllWithin b ns × FirstOver b ys c)
-first-latch b c [] [] ys e k = inr (λ x h. absurd h, λ x h. absurd h, k)
-first-latch b c [] (n ∷ ns) ys e k = absurd (omega arith)
-first-latch b c (s ∷ ss) [] ys e k = absurd (omega arith)
-first-latch b c (s ∷ ss) (n ∷ ns) ys e k = here (λ f. first-latch b c ss ns ys (omega arith) f) (first-of b c (s ∷ n ∷ []) (latchCodes ss ns ++ ys) k)
+-- or none of their codes is over, and the first is in what comes after
+abbrev LatchOr : ℕ → ℕ → List ℕ → List ℕ → List ℕ → List ℕ → Type 0
+LatchOr b c ss ns rs ys = AtLatch b c ss ns rs ⊎ (AllWithin b ss × AllWithin b ns × AllWithin b rs × FirstOver b ys c)
+
+first-latch : (b c : ℕ) (ss ns rs ys : List ℕ) → length ss ≡ length ns → length ss ≡ length rs → FirstOver b (latchCodes ss ns rs ++ ys) c
+    → LatchOr b c ss ns rs ys
+first-latch b c [] [] [] ys e e′ k = inr (λ x h. absurd h, λ x h. absurd h, λ x h. absurd h, k)
+first-latch b c [] (n ∷ ns) rs ys e e′ k = absurd (omega arith)
+first-latch b c [] [] (r ∷ rs) ys e e′ k = absurd (omega arith)
+first-latch b c (s ∷ ss) [] rs ys e e′ k = absurd (omega arith)
+first-latch b c (s ∷ ss) (n ∷ ns) [] ys e e′ k = absurd (omega arith)
+first-latch b c (s ∷ ss) (n ∷ ns) (r ∷ rs) ys e e′ k =
+    here (λ f. first-latch b c ss ns rs ys (omega arith) (omega arith) f) (first-of b c (s ∷ n ∷ r ∷ []) (latchCodes ss ns rs ++ ys) k)
   where
-    all : (x : ℕ) → x ≤ b → (l : List ℕ) → AllWithin b l → AllWithin b (x ∷ l)
-    all x p l q y (inl m) = omega arith
-    all x p l q y (inr m) = q y m
-
-    before : (s ≤ b) × (n ≤ b) → (a : AtLatch b c ss ns) → (j : ℕ) → j < suc (a .place) → (getD (s ∷ ss) j 0 ≤ b) × (getD (n ∷ ns) j 0 ≤ b)
+    before : (s ≤ b) × (n ≤ b) × (r ≤ b) → (a : AtLatch b c ss ns rs) → (j : ℕ) → j < suc (a .place)
+        → (getD (s ∷ ss) j 0 ≤ b) × (getD (n ∷ ns) j 0 ≤ b) × (getD (r ∷ rs) j 0 ≤ b)
     before p a zero h = p
     before p a (suc j) h = a .within j (omega arith)
 
-    later : (s ≤ b) × (n ≤ b) → AtLatch b c ss ns ⊎ (AllWithin b ss × AllWithin b ns × FirstOver b ys c)
-        → AtLatch b c (s ∷ ss) (n ∷ ns) ⊎ (AllWithin b (s ∷ ss) × AllWithin b (n ∷ ns) × FirstOver b ys c)
+    later : (s ≤ b) × (n ≤ b) × (r ≤ b) → LatchOr b c ss ns rs ys → LatchOr b c (s ∷ ss) (n ∷ ns) (r ∷ rs) ys
     later p (inl a) = inl (record { place = suc (a .place); inside = omega (arith, a .inside); within = before p a; first = a .first })
-    later p (inr a) = inr (all s (p .0) ss (a .0), all n (p .1) ns (a .1), a .2)
+    later p (inr a) = inr (within-cons b s ss (p .0) (a .0), within-cons b n ns (p .1) (a .1), within-cons b r rs (p .2) (a .2), a .3)
 
-    here : (FirstOver b (latchCodes ss ns ++ ys) c → AtLatch b c ss ns ⊎ (AllWithin b ss × AllWithin b ns × FirstOver b ys c))
-        → FirstOver b (s ∷ n ∷ []) c ⊎ (AllWithin b (s ∷ n ∷ []) × FirstOver b (latchCodes ss ns ++ ys) c)
-        → AtLatch b c (s ∷ ss) (n ∷ ns) ⊎ (AllWithin b (s ∷ ss) × AllWithin b (n ∷ ns) × FirstOver b ys c)
+    here : (FirstOver b (latchCodes ss ns rs ++ ys) c → LatchOr b c ss ns rs ys)
+        → FirstOver b (s ∷ n ∷ r ∷ []) c ⊎ (AllWithin b (s ∷ n ∷ r ∷ []) × FirstOver b (latchCodes ss ns rs ++ ys) c)
+        → LatchOr b c (s ∷ ss) (n ∷ ns) (r ∷ rs) ys
     here rec (inl f) = inl (record { place = 0; inside = omega arith; within = λ j h. absurd (omega arith); first = f })
-    here rec (inr f) = later (f .0 s (inl refl), f .0 n (inr (inl refl))) (rec (f .1))
+    here rec (inr f) = later (f .0 s (inl refl), f .0 n (inr (inl refl)), f .0 r (inr (inr (inl refl)))) (rec (f .1))
 
-pub first-too-big : (C : Circuit) (c : ℕ) → length (C .states) ≡ length (C .nexts) → FirstOver (2 * C .top + 1) (codes C) c → FirstTooBig C c
+pub first-too-big : (C : Circuit) (c : ℕ) → length (C .states) ≡ length (C .nexts) → length (C .states) ≡ length (C .resets)
+    → FirstOver (2 * C .top + 1) (codes C) c → FirstTooBig C c
 unfolding codes
-first-too-big C c e k = inputs (first-of (largestCode C) c (C .inputs) _ k)
+first-too-big C c e e′ k = inputs (first-of (largestCode C) c (C .inputs) _ k)
   where
     roots : AllWithin (largestCode C) (C .inputs) → GatesWithin (largestCode C) (C .gates)
-        → AtLatch (largestCode C) c (C .states) (C .nexts)
-        ⊎ (AllWithin (largestCode C) (C .states) × AllWithin (largestCode C) (C .nexts) × FirstOver (largestCode C) (C .roots) c)
-        → FirstTooBig C c
+        → LatchOr (largestCode C) c (C .states) (C .nexts) (C .resets) (C .roots) → FirstTooBig C c
     roots i g (inl a) = ofLatch i g (a .place) (a .inside) (a .within) (a .first)
-    roots i g (inr a) = aRoot i g (a .0) (a .1) (a .2)
+    roots i g (inr a) = aRoot i g (a .0) (a .1) (a .2) (a .3)
 
     latches : AllWithin (largestCode C) (C .inputs)
         → AtGate (largestCode C) c (C .gates)
-        ⊎ (GatesWithin (largestCode C) (C .gates) × FirstOver (largestCode C) (latchCodes (C .states) (C .nexts) ++ C .roots) c)
+        ⊎ (GatesWithin (largestCode C) (C .gates) × FirstOver (largestCode C) (latchCodes (C .states) (C .nexts) (C .resets) ++ C .roots) c)
         → FirstTooBig C c
     latches i (inl a) = ofGate i (a .before) (a .after) (a .gate) (a .splits) (a .within) (a .first)
-    latches i (inr a) = roots i (a .0) (first-latch (largestCode C) c (C .states) (C .nexts) (C .roots) e (a .1))
+    latches i (inr a) = roots i (a .0) (first-latch (largestCode C) c (C .states) (C .nexts) (C .resets) (C .roots) e e′ (a .1))
 
     inputs : FirstOver (largestCode C) (C .inputs) c
-        ⊎ (AllWithin (largestCode C) (C .inputs) × FirstOver (largestCode C) (gateCodes (C .gates) ++ (latchCodes (C .states) (C .nexts) ++ C .roots)) c)
+        ⊎ (AllWithin (largestCode C) (C .inputs)
+        × FirstOver (largestCode C) (gateCodes (C .gates) ++ (latchCodes (C .states) (C .nexts) (C .resets) ++ C .roots)) c)
         → FirstTooBig C c
     inputs (inl f) = anInput f
     inputs (inr f) = latches (f .0) (first-gate (largestCode C) c (C .gates) _ (f .1))
@@ -243,6 +263,7 @@ is-lent l =
       inputs = refl;
       states = refl;
       nexts = refl;
+      resets = refl;
       gateCount = gates-length (l .gates);
       gates = λ k h. gate-words (l .gates) k h;
       counts = refl;

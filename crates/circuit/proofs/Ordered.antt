@@ -66,7 +66,7 @@ pub countFrom-length : (t n : ℕ) → length (countFrom t n) ≡ n
 countFrom-length t zero = refl
 countFrom-length t (suc n) = ap suc (countFrom-length (t + 2) n)
 
-countFrom-getD : (t n k : ℕ) → k < n → getD (countFrom t n) k 0 ≡ t + 2 * k
+pub countFrom-getD : (t n k : ℕ) → k < n → getD (countFrom t n) k 0 ≡ t + 2 * k
 countFrom-getD t zero k h = absurd (omega arith)
 countFrom-getD t (suc n) zero h = omega arith
 countFrom-getD t (suc n) (suc k) h = countFrom-getD (t + 2) n k (omega arith) ∙ omega arith

@@ -8,7 +8,7 @@ use mathlib.Core.Option.{Option, none, some}
 use mathlib.Core.List.{List, [], _∷_, _++_, map, append-nil}
 use native.Mathlib.Omega.{arith}
 use borrow.Author.Tests.{ltb-false, le-ltb, eqb-true, eq-eqb, not-false}
-use lib.Dec.{eqb, leb, ltb}
+use lib.Dec.{eqb, ltb}
 use lib.ListN.{length, getD, take, drop, length-append, length-take, length-drop, drop-of-length-le, List·getD-append}
 use lib.Seq.{take-all, take-at, getD-append-add, getD-drop}
 use Rattle.circuit.specs.declared.Refusal.{Refusal}
@@ -16,17 +16,16 @@ use Rattle.circuit.specs.declared.Refusal.the-variants as R
 use Rattle.circuit.specs.declared.Refusal.the-variants.{TooBig, Misshapen, Short, StateAgain, Undefined, Cycle}
 use Rattle.circuit.specs.declared.Summary.{Summary}
 use Rattle.circuit.specs.declared.Answer.the-variants.{Renumbered, Refused}
-use Rattle.circuit.specs.Refusals.{refusalNumber}
 use Rattle.lit.specs.Code.{var}
 use Rattle.circuit.specs.Graph.{In, Distinct, defined, DefinedOnce, Loop}
 use Rattle.circuit.specs.Walk.{Work, Out, reached, stopped}
-use Rattle.circuit.specs.Circuit.{Circuit, graph, codes, firstOver, definitions, renumber}
+use Rattle.circuit.specs.Circuit.{Circuit, graph, codes, firstOver, firstStray, definitions, renumber}
 use Rattle.circuit.specs.Ordered.{orderedOf}
-use Rattle.circuit.specs.Outcome.{Lent, circuitOf, limit, tooBig, total, misshapen, tooShort, mapWords, scratchWords, orStop, conclusion, onto, summaryOf, written, cleared, untouched, after, outcome}
-use Rattle.circuit.specs.Claims.{Within, Agrees, Roomy, FirstOver, FirstAgain, IsUsed}
+use Rattle.circuit.specs.Outcome.{Lent, circuitOf, limit, tooBig, total, misshapen, tooShort, mapWords, scratchWords, orStop, conclusion, onto, summaryOf, written, cleared, untouched, isEarly, after, outcome}
+use Rattle.circuit.specs.Claims.{Within, Agrees, Roomy, AllReset, FirstOver, FirstStray, FirstAgain, IsUsed}
 use Rattle.circuit.specs.Tested.{Fits, Tested, InBounds}
-use Rattle.circuit.proofs.Checks.{Over, noneOver, oneOver, overTest}
-use Rattle.circuit.proofs.Renumber.{Limits, Why, Done, Answered, answered}
+use Rattle.circuit.proofs.Checks.{Over, noneOver, oneOver, overTest, Stray, noneStray, oneStray, strayTest, no-stray}
+use Rattle.circuit.proofs.Renumber.{Limits, Clean, Why, Done, Answered, answered}
 
 pub or-false : (a b : Bool) → a || b ≡ false → (a ≡ false) × (b ≡ false)
 or-false true b e = absurd (true≢false e)
@@ -41,6 +40,7 @@ WhyLent l TooBig = tooBig (circuitOf l) ≡ true
 WhyLent l Misshapen = (tooBig (circuitOf l) ≡ false) × (misshapen l ≡ true)
 WhyLent l Short = (tooBig (circuitOf l) ≡ false) × (misshapen l ≡ false) × (tooShort l (circuitOf l) ≡ true)
 WhyLent l (R.Over d) = Fits l × FirstOver (2 * circuitOf l .top + 1) (codes (circuitOf l)) (d .0)
+WhyLent l (R.Reset d) = Fits l × InBounds (circuitOf l) × FirstStray (l .states) (l .resets) (d .0)
 WhyLent l (R.Again d) = Tested l × FirstAgain (0 ∷ []) (definitions (circuitOf l)) (d .0)
 WhyLent l (StateAgain d) =
     Tested l × Distinct (0 ∷ map var (definitions (circuitOf l))) × FirstAgain (0 ∷ map var (definitions (circuitOf l))) (l .states) (d .0)
@@ -52,7 +52,7 @@ module _ (l : Lent) where
   abbrev C : Circuit
   C = circuitOf l
 
-  -- checks 1 to 4, as they are computed, say what they should
+  -- checks 1 to 4 and 22, as they are computed, say what they should
   pub within : tooBig C ≡ false → Within C
   unfolding tooBig
   within e =
@@ -72,28 +72,34 @@ module _ (l : Lent) where
   pub agrees : misshapen l ≡ false → Agrees l
   unfolding misshapen
   agrees e =
-      let a = or-false (not (eqb (total (C .counts)) (length (C .roots))) || not (eqb (length (C .states)) (length (C .nexts))))
-      (not (eqb (length (l .gates) % 3) 0)) e in
-      let b = or-false (not (eqb (total (C .counts)) (length (C .roots)))) (not (eqb (length (C .states)) (length (C .nexts)))) (a .0) in
+      let a = or-false (not (eqb (total (C .counts)) (length (C .roots))) || not (eqb (length (C .states)) (length (C .nexts)))
+      || not (eqb (length (C .states)) (length (C .resets)))) (not (eqb (length (l .gates) % 3) 0)) e in
+      let c = or-false (not (eqb (total (C .counts)) (length (C .roots))) || not (eqb (length (C .states)) (length (C .nexts))))
+      (not (eqb (length (C .states)) (length (C .resets)))) (a .0) in
+      let b = or-false (not (eqb (total (C .counts)) (length (C .roots)))) (not (eqb (length (C .states)) (length (C .nexts)))) (c .0) in
       record {
         roots = same-of (total (C .counts)) (length (C .roots)) (b .0);
         latches = same-of (length (C .states)) (length (C .nexts)) (b .1);
+        resets = same-of (length (C .states)) (length (C .resets)) (c .1);
         words = same-of (length (l .gates) % 3) 0 (a .1);
       }
 
   pub roomy : tooShort l C ≡ false → Roomy l C
   unfolding tooShort
   roomy e =
-      let a = or-false (ltb (length (l .map)) (mapWords C) || ltb (length (l .nextImages)) (length (C .states)) || ltb (length (l .rootImages))
-      (length (C .roots)) || ltb (length (l .gatesOut)) (2 * length (C .gates))) (ltb (length (l .scratch)) (scratchWords C)) e in
-      let b = or-false (ltb (length (l .map)) (mapWords C) || ltb (length (l .nextImages)) (length (C .states)) || ltb (length (l .rootImages))
-      (length (C .roots))) (ltb (length (l .gatesOut)) (2 * length (C .gates))) (a .0) in
-      let c = or-false (ltb (length (l .map)) (mapWords C) || ltb (length (l .nextImages)) (length (C .states)))
-      (ltb (length (l .rootImages)) (length (C .roots))) (b .0) in
-      let d = or-false (ltb (length (l .map)) (mapWords C)) (ltb (length (l .nextImages)) (length (C .states))) (c .0) in
+      let short : List ℕ → ℕ → Bool = λ list n. ltb (length list) n in
+      let a = or-false (short (l .map) (mapWords C) || short (l .nextImages) (length (C .states)) || short (l .resetImages) (length (C .states))
+      || short (l .rootImages) (length (C .roots)) || short (l .gatesOut) (2 * length (C .gates))) (short (l .scratch) (scratchWords C)) e in
+      let b = or-false (short (l .map) (mapWords C) || short (l .nextImages) (length (C .states)) || short (l .resetImages) (length (C .states))
+      || short (l .rootImages) (length (C .roots))) (short (l .gatesOut) (2 * length (C .gates))) (a .0) in
+      let c = or-false (short (l .map) (mapWords C) || short (l .nextImages) (length (C .states)) || short (l .resetImages) (length (C .states)))
+      (short (l .rootImages) (length (C .roots))) (b .0) in
+      let r = or-false (short (l .map) (mapWords C) || short (l .nextImages) (length (C .states))) (short (l .resetImages) (length (C .states))) (c .0) in
+      let d = or-false (short (l .map) (mapWords C)) (short (l .nextImages) (length (C .states))) (r .0) in
       record {
         map = ltb-false (length (l .map)) (mapWords C) (d .0);
         nexts = ltb-false (length (l .nextImages)) (length (C .states)) (d .1);
+        resets = ltb-false (length (l .resetImages)) (length (C .states)) (r .1);
         roots = ltb-false (length (l .rootImages)) (length (C .roots)) (c .1);
         gates = ltb-false (length (l .gatesOut)) (2 * length (C .gates)) (b .1);
         scratch = ltb-false (length (l .scratch)) (scratchWords C) (a .1);
@@ -116,6 +122,7 @@ module _ (l : Lent) where
       rw (
         eq-eqb (total (C .counts)) (length (C .roots)) (h .roots),
         eq-eqb (length (C .states)) (length (C .nexts)) (h .latches),
+        eq-eqb (length (C .states)) (length (C .resets)) (h .resets),
         eq-eqb (length (l .gates) % 3) 0 (h .words),
       )
 
@@ -125,6 +132,7 @@ module _ (l : Lent) where
       rw (
         le-ltb (length (l .map)) (mapWords C) (h .map),
         le-ltb (length (l .nextImages)) (length (C .states)) (h .nexts),
+        le-ltb (length (l .resetImages)) (length (C .states)) (h .resets),
         le-ltb (length (l .rootImages)) (length (C .roots)) (h .roots),
         le-ltb (length (l .gatesOut)) (2 * length (C .gates)) (h .gates),
         le-ltb (length (l .scratch)) (scratchWords C) (h .scratch),
@@ -135,6 +143,7 @@ module _ (l : Lent) where
       record {
         few = omega (arith, length-append (C .inputs) (C .states), within (f .one));
         latches = agrees (f .two) .latches;
+        resets = agrees (f .two) .resets;
       }
 
   pub bounds : Tested l → InBounds C
@@ -144,8 +153,18 @@ module _ (l : Lent) where
       go none (noneOver f) e = f
       go (some c) (oneOver c′ k) e = absurd (let z : _≡_ {A = ℕ} 0 1 = cc in omega arith)
 
-  pub tested-of : Fits l → InBounds C → Tested l
-  tested-of f b = record { fits = f; four = go (firstOver (2 * C .top + 1) (codes C)) (overTest (2 * C .top + 1) (codes C)) }
+  pub all-reset : Tested l → AllReset (l .states) (l .resets)
+  all-reset p = go (firstStray (l .states) (l .resets)) (strayTest (l .states) (l .resets)) (p .twentyTwo)
+    where
+      go : (o : Option ℕ) → Stray (l .states) (l .resets) o → o ≡ none → AllReset (l .states) (l .resets)
+      go none (noneStray f) e = f
+      go (some c) (oneStray c′ k) e = absurd (let z : _≡_ {A = ℕ} 0 1 = cc in omega arith)
+
+  pub clean : Tested l → Clean C
+  clean p = (bounds p, all-reset p)
+
+  pub none-over : InBounds C → firstOver (2 * C .top + 1) (codes C) ≡ none
+  none-over b = go (firstOver (2 * C .top + 1) (codes C)) (overTest (2 * C .top + 1) (codes C))
     where
       go : (o : Option ℕ) → Over (2 * C .top + 1) (codes C) o → o ≡ none
       go none (noneOver k) = refl
@@ -154,6 +173,14 @@ module _ (l : Lent) where
           in-middle : (s : List ℕ) → In c (s ++ (c ∷ k .after))
           in-middle [] = inl refl
           in-middle (x ∷ s) = inr (in-middle s)
+
+  pub tested-of : Fits l → Clean C → Tested l
+  tested-of f (b, a) =
+      record { fits = f; four = none-over b; twentyTwo = stray (firstStray (l .states) (l .resets)) (strayTest (l .states) (l .resets)) }
+    where
+      stray : (o : Option ℕ) → Stray (l .states) (l .resets) o → o ≡ none
+      stray none (noneStray k) = refl
+      stray (some c) (oneStray c′ k) = absurd (no-stray (l .states) (l .resets) c k a)
 
   -- what the conclusion says
   abbrev pub Concluded : Out → Type 0
@@ -165,6 +192,7 @@ module _ (l : Lent) where
   by-why f Misshapen k = absurd k
   by-why f Short k = absurd k
   by-why f (R.Over d) k = (f, k)
+  by-why f (R.Reset d) k = (f, k .0, k .1)
   by-why f (R.Again d) k = (tested-of f (k .0), k .1)
   by-why f (StateAgain d) k = (tested-of f (k .0), k .1, k .2)
   by-why f (Undefined d) k = (tested-of f (k .0), k .1, k .2, k .3)
@@ -197,7 +225,7 @@ module _ (l : Lent) where
 
       go : (o : Out) → conclusion l ≡ o → after l o .answer ≡ Renumbered s → (w : Work) × (conclusion l ≡ reached w) × (s ≡ summaryOf (orderedOf C w))
       go (reached w) k a = (w, k, cc)
-      go (stopped r) k a = absurd (no-success r (leb (refusalNumber r) 4) a)
+      go (stopped r) k a = absurd (no-success r (isEarly r) a)
 
   pub refusal-from : (r : Refusal) → outcome l .answer ≡ Refused r → conclusion l ≡ stopped r
   unfolding outcome after
@@ -209,13 +237,13 @@ module _ (l : Lent) where
 
       go : (o : Out) → conclusion l ≡ o → after l o .answer ≡ Refused r → conclusion l ≡ stopped r
       go (reached w) k a = absurd (let z : _≡_ {A = ℕ} 0 1 = cc in omega arith)
-      go (stopped r′) k a = k ∙ ap stopped (same-refusal r′ (leb (refusalNumber r′) 4) a)
+      go (stopped r′) k a = k ∙ ap stopped (same-refusal r′ (isEarly r′) a)
 
   pub success-of : (w : Work) → conclusion l ≡ reached w → outcome l ≡ written l C (w .images) (orderedOf C w)
   unfolding outcome after
   success-of w e = ap (after l) e
 
-  pub refusal-of : (r : Refusal) → conclusion l ≡ stopped r → outcome l ≡ cond (leb (refusalNumber r) 4) (untouched l r) (cleared l C r)
+  pub refusal-of : (r : Refusal) → conclusion l ≡ stopped r → outcome l ≡ cond (isEarly r) (untouched l r) (cleared l C r)
   unfolding outcome after
   refusal-of r e = ap (after l) e
 

@@ -10,18 +10,18 @@ use native.Mathlib.Omega.{arith}
 use lib.ListN.{length, replicate}
 use Rattle.lit.specs.Code.{var, literal, variable, isOdd, flipped}
 use Rattle.circuit.specs.declared.Refusal.{Refusal}
-use Rattle.circuit.specs.declared.Refusal.the-variants.{Misshapen, Short, Over, Again, StateAgain, Undefined, Cycle}
+use Rattle.circuit.specs.declared.Refusal.the-variants.{Misshapen, Short, Over, Reset, Again, StateAgain, Undefined, Cycle}
 use Rattle.circuit.specs.declared.Answer.the-variants.{Renumbered, Refused}
 use Rattle.circuit.specs.declared.Image.the-variants.{Absent, Code}
 use Rattle.circuit.specs.Graph.{In, Distinct, Gate, outVar, Graph, defined, gateFor, Step, toFirst, toSecond, Reach, here, via, Loop, Grounded, Uses, itself, firstOf, secondOf, negated, Means, constant, source, negation}
 use Rattle.circuit.specs.Graph as graphs
 use Rattle.circuit.specs.Map.{entryImage, imageIn, store, codeOf}
 use Rattle.circuit.specs.Walk.{Net, Pair, Work, reached, stopped, firstCode, nextCode, folded, madeBefore, already, settleAs, settleOn, settle, look, throughInputs, walk, stackRoom, walkAll}
-use Rattle.circuit.specs.Circuit.{Circuit, codes, start, walked, renumber}
+use Rattle.circuit.specs.Circuit.{Circuit, codes, start, walked, numbered, renumber}
 use Rattle.circuit.specs.Ordered.{Ordered, imagesIn, orderedOf, sourcesOf, given, orderedGraph, noPair, InOrder, flipIf, bitOf, runGates, valuesOf, givenFrom}
 use Rattle.circuit.specs.Outcome.{Lent, lentOf, outcomeOf, gatesOf, tooBig, misshapen, tooShort, onto, pairWords, pairsOf, cleared, conclusion, after, outcome, held}
 use Rattle.circuit.specs.Machine.{Frame, At, transfer, back, Machine, goes, ends, pathOf, stepLook, stepBack, stepAt, step, stackWords}
-use Rattle.circuit.specs.Lending.{Flags, plain, trimming, hashing, folding, lend, circuit, Example, success, refusal, earlyRefusal}
+use Rattle.circuit.specs.Lending.{Flags, plain, trimming, hashing, folding, lendWith, lend, circuit, Example, success, refusal, earlyRefusal}
 use Rattle.circuit.proofs.Examples.{outputs, Computes}
 
 -- the word for no image
@@ -42,35 +42,44 @@ dirty n = replicate n 88 ++ (91 ∷ 92 ∷ 93 ∷ [])
 abbrev over : List ℕ → List ℕ
 over ws = ws ++ (91 ∷ 92 ∷ 93 ∷ [])
 
--- input, latch, gate and root are all there: flags, V, inputs, latch states, next states, gates (flat), root counts, roots
-abbrev whole : Flags → ℕ → List ℕ → List ℕ → List ℕ → List ℕ → List ℕ → List ℕ → Lent
-whole f top inputs states nexts gates counts roots =
-    lentOf (record { top = variable top; counts = counts; trim = f .trim; hash = f .hash; fold = f .fold }) inputs states nexts gates roots
-    (dirty (top + 1)) (dirty (length states)) (dirty (length roots)) (dirty (2 * (length gates / 3))) (dirty (3 * top + 3 + 3 * (length gates / 3)))
+-- input, latch, gate and root are all there: flags, V, inputs, latch states, next states, resets, gates (flat), root counts, roots
+abbrev wholeWith : Flags → ℕ → List ℕ → List ℕ → List ℕ → List ℕ → List ℕ → List ℕ → List ℕ → Lent
+wholeWith f top inputs states nexts resets gates counts roots =
+    lentOf (record { top = variable top; counts = counts; trim = f .trim; hash = f .hash; fold = f .fold }) inputs states nexts resets gates roots
+    (dirty (top + 1)) (dirty (length states)) (dirty (length states)) (dirty (length roots)) (dirty (2 * (length gates / 3)))
+    (dirty (3 * top + 3 + 3 * (length gates / 3)))
 
--- answered: map, next images, gates out, root images; and a scratch of so many words
-abbrev gives : Lent → ℕ → ℕ → List ℕ → List ℕ → List ℕ → List ℕ → ℕ → Example
-gives l made top map nexts gates roots scratch =
+-- the same with every reset 0
+abbrev whole : Flags → ℕ → List ℕ → List ℕ → List ℕ → List ℕ → List ℕ → List ℕ → Lent
+whole f top inputs states nexts gates counts roots = wholeWith f top inputs states nexts (replicate (length states) 0) gates counts roots
+
+-- answered: map, next images, reset images, gates out, root images; and a scratch of so many words
+abbrev givesWith : Lent → ℕ → ℕ → List ℕ → List ℕ → List ℕ → List ℕ → List ℕ → ℕ → Example
+givesWith l made top map nexts resets gates roots scratch =
     record {
       lent = l;
       expected =
-          outcomeOf (Renumbered (record { made = made; top = variable top })) (over map) (over nexts) (over roots) (over gates) (over (replicate scratch 0));
+          outcomeOf (Renumbered (record { made = made; top = variable top })) (over map) (over nexts) (over resets) (over roots) (over gates)
+          (over (replicate scratch 0));
     }
 
--- refused by 5 to 8: so many cells of the map hold the word for no image, and so many next images, root images, gate words and scratch words hold 0
+abbrev gives : Lent → ℕ → ℕ → List ℕ → List ℕ → List ℕ → List ℕ → ℕ → Example
+gives l made top map nexts gates roots scratch = givesWith l made top map nexts (replicate (length nexts) 0) gates roots scratch
+
+-- refused by 5 to 8: so many cells of the map hold the word for no image, and so many next and reset images, root images, gate words and scratch words hold 0
 abbrev clears : Lent → Refusal → ℕ → ℕ → ℕ → ℕ → ℕ → Example
 clears l why map nexts roots gates scratch =
     record {
       lent = l;
       expected =
-          outcomeOf (Refused why) (over (replicate map gone)) (over (replicate nexts 0)) (over (replicate roots 0)) (over (replicate gates 0))
-          (over (replicate scratch 0));
+          outcomeOf (Refused why) (over (replicate map gone)) (over (replicate nexts 0)) (over (replicate nexts 0)) (over (replicate roots 0))
+          (over (replicate gates 0)) (over (replicate scratch 0));
     }
 
--- refused by 1 to 4: so many dirty cells of each stay
+-- refused by 1 to 4 or 22: so many dirty cells of each stay
 abbrev stays : Lent → Refusal → ℕ → ℕ → ℕ → ℕ → ℕ → Example
 stays l why map nexts roots gates scratch =
-    record { lent = l; expected = outcomeOf (Refused why) (dirty map) (dirty nexts) (dirty roots) (dirty gates) (dirty scratch) }
+    record { lent = l; expected = outcomeOf (Refused why) (dirty map) (dirty nexts) (dirty nexts) (dirty roots) (dirty gates) (dirty scratch) }
 
 -- input 2, latch (4,7), gate 6(2,5), root 7, each with one thing wrong
 abbrev cells : List Example
@@ -101,8 +110,17 @@ cells =
     ∷ stays (whole plain 3 (8 ∷ []) (4 ∷ []) (7 ∷ []) (6 ∷ 2 ∷ 5 ∷ []) (outputs 1) (6 ∷ [])) (Over (literal 8)) 4 1 1 2 15
     -- the largest code, 7, passes everywhere
     ∷ gives (whole plain 3 (7 ∷ []) (5 ∷ []) (7 ∷ []) (3 ∷ 7 ∷ 7 ∷ []) (outputs 1) (7 ∷ [])) 1 3 (0 ∷ 7 ∷ 5 ∷ 3 ∷ []) (2 ∷ []) (2 ∷ 2 ∷ []) (2 ∷ []) 15
-    -- 2: no next state
+    -- 2: no next state; no reset
     ∷ stays (whole plain 3 (2 ∷ []) (4 ∷ []) [] (6 ∷ 2 ∷ 5 ∷ []) (outputs 1) (6 ∷ [])) Misshapen 4 1 1 2 15
+    ∷ stays (wholeWith plain 3 (2 ∷ []) (4 ∷ []) (7 ∷ []) [] (6 ∷ 2 ∷ 5 ∷ []) (outputs 1) (6 ∷ [])) Misshapen 4 1 1 2 15
+    -- 22: the reset is the next state, the latch's literal negated, the input; it is the latch's literal, or 1, and carried over
+    ∷ stays (wholeWith plain 3 (2 ∷ []) (4 ∷ []) (7 ∷ []) (7 ∷ []) (6 ∷ 2 ∷ 5 ∷ []) (outputs 1) (6 ∷ [])) (Reset (literal 7)) 4 1 1 2 15
+    ∷ stays (wholeWith plain 3 (2 ∷ []) (4 ∷ []) (7 ∷ []) (5 ∷ []) (6 ∷ 2 ∷ 5 ∷ []) (outputs 1) (6 ∷ [])) (Reset (literal 5)) 4 1 1 2 15
+    ∷ stays (wholeWith plain 3 (2 ∷ []) (4 ∷ []) (7 ∷ []) (2 ∷ []) (6 ∷ 2 ∷ 5 ∷ []) (outputs 1) (6 ∷ [])) (Reset (literal 2)) 4 1 1 2 15
+    ∷ givesWith (wholeWith plain 3 (2 ∷ []) (4 ∷ []) (7 ∷ []) (4 ∷ []) (6 ∷ 2 ∷ 5 ∷ []) (outputs 1) (6 ∷ [])) 1 3 (0 ∷ 2 ∷ 4 ∷ 6 ∷ []) (7 ∷ [])
+    (4 ∷ []) (5 ∷ 2 ∷ []) (6 ∷ []) 15
+    ∷ givesWith (wholeWith plain 3 (2 ∷ []) (4 ∷ []) (7 ∷ []) (1 ∷ []) (6 ∷ 2 ∷ 5 ∷ []) (outputs 1) (6 ∷ [])) 1 3 (0 ∷ 2 ∷ 4 ∷ 6 ∷ []) (7 ∷ [])
+    (1 ∷ []) (5 ∷ 2 ∷ []) (6 ∷ []) 15
     ∷ []
 
 -- check 4 goes gate by gate and latch by latch, and through later ones too
@@ -205,6 +223,7 @@ sized top inputs states gates roots =
       inputs = inputs;
       states = states;
       nexts = [];
+      resets = [];
       gates = gates;
       counts = [];
       roots = roots;
@@ -219,38 +238,52 @@ pub limits-pinned : (cs over : List ℕ) (gs overs : List Gate) → length cs �
 unfolding tooBig
 limits-pinned cs over gs overs c o g p = (refl, rw o, rw o, rw p, rw o, rw (c, g))
 
--- L is the length of the list of states, whether or not there are as many next states. With the latch state 2 and no next state: no next image lent is too few
--- and one is enough; of two a refusal clears one; and of two one belongs to the ordered circuit
-abbrev latched : List ℕ → Lent
-latched nextImages =
-    lentOf (record { top = variable 0; counts = []; trim = false; hash = false; fold = false }) [] (2 ∷ []) [] [] [] (88 ∷ []) nextImages [] [] (replicate 3 88)
+-- L is the length of the list of states, whether or not there are as many next states or resets. With the latch state 2, no next state and no reset: no next
+-- image lent is too few, no reset image is, and one of each is enough; of two a refusal clears one; and of two one belongs to the ordered circuit
+abbrev latched : List ℕ → List ℕ → Lent
+latched nextImages resetImages =
+    lentOf (record { top = variable 0; counts = []; trim = false; hash = false; fold = false }) [] (2 ∷ []) [] [] [] [] (88 ∷ []) nextImages resetImages [] []
+    (replicate 3 88)
 
 pub latches-pinned :
-    (tooShort (latched []) (sized 0 [] (2 ∷ []) [] []) ≡ true) × (tooShort (latched (88 ∷ [])) (sized 0 [] (2 ∷ []) [] []) ≡ false)
-    × (cleared (latched (88 ∷ 89 ∷ [])) (sized 0 [] (2 ∷ []) [] []) Short .nextImages ≡ 0 ∷ 89 ∷ [])
-    × (held (latched []) (record { made = 0; top = variable 0 }) (outcomeOf (Refused Short) [] (88 ∷ 89 ∷ []) [] [] []) .nexts ≡ 88 ∷ [])
+    (tooShort (latched [] (88 ∷ [])) (sized 0 [] (2 ∷ []) [] []) ≡ true) × (tooShort (latched (88 ∷ []) []) (sized 0 [] (2 ∷ []) [] []) ≡ true)
+    × (tooShort (latched (88 ∷ []) (88 ∷ [])) (sized 0 [] (2 ∷ []) [] []) ≡ false)
+    × (cleared (latched (88 ∷ 89 ∷ []) []) (sized 0 [] (2 ∷ []) [] []) Short .nextImages ≡ 0 ∷ 89 ∷ [])
+    × (cleared (latched [] (88 ∷ 89 ∷ [])) (sized 0 [] (2 ∷ []) [] []) Short .resetImages ≡ 0 ∷ 89 ∷ [])
+    × (held (latched [] []) (record { made = 0; top = variable 0 }) (outcomeOf (Refused Short) [] (88 ∷ 89 ∷ []) [] [] [] []) .nexts ≡ 88 ∷ [])
+    × (held (latched [] []) (record { made = 0; top = variable 0 }) (outcomeOf (Refused Short) [] [] (88 ∷ 89 ∷ []) [] [] []) .resets ≡ 88 ∷ [])
 unfolding tooShort held
-latches-pinned = (refl, refl, refl, refl)
+latches-pinned = (refl, refl, refl, refl, refl, refl, refl)
 
 -- what is lent and what comes of it, field by field; flat gates, with none, one or two words left over; pairs of words
 pub fields-pinned :
-    (lentOf (record { top = variable 9; counts = 8 ∷ []; trim = true; hash = false; fold = false }) (1 ∷ []) (2 ∷ []) (3 ∷ []) (4 ∷ []) (5 ∷ [])
-    (6 ∷ []) (7 ∷ []) (8 ∷ []) (9 ∷ []) (10 ∷ [])
+    (lentOf (record { top = variable 9; counts = 8 ∷ []; trim = true; hash = false; fold = false }) (1 ∷ []) (2 ∷ []) (3 ∷ []) (11 ∷ [])
+    (4 ∷ []) (5 ∷ []) (6 ∷ []) (7 ∷ []) (12 ∷ []) (8 ∷ []) (9 ∷ []) (10 ∷ [])
     ≡ record {
       circuit = record { top = variable 9; counts = 8 ∷ []; trim = true; hash = false; fold = false };
       inputs = 1 ∷ [];
       states = 2 ∷ [];
       nexts = 3 ∷ [];
+      resets = 11 ∷ [];
       gates = 4 ∷ [];
       roots = 5 ∷ [];
       map = 6 ∷ [];
       nextImages = 7 ∷ [];
+      resetImages = 12 ∷ [];
       rootImages = 8 ∷ [];
       gatesOut = 9 ∷ [];
       scratch = 10 ∷ [];
     })
-    × (outcomeOf (Refused Short) (1 ∷ []) (2 ∷ []) (3 ∷ []) (4 ∷ []) (5 ∷ [])
-    ≡ record { answer = Refused Short; map = 1 ∷ []; nextImages = 2 ∷ []; rootImages = 3 ∷ []; gatesOut = 4 ∷ []; scratch = 5 ∷ [] })
+    × (outcomeOf (Refused Short) (1 ∷ []) (2 ∷ []) (6 ∷ []) (3 ∷ []) (4 ∷ []) (5 ∷ [])
+    ≡ record {
+      answer = Refused Short;
+      map = 1 ∷ [];
+      nextImages = 2 ∷ [];
+      resetImages = 6 ∷ [];
+      rootImages = 3 ∷ [];
+      gatesOut = 4 ∷ [];
+      scratch = 5 ∷ [];
+    })
     × (gatesOf (1 ∷ 2 ∷ 3 ∷ 4 ∷ 5 ∷ 6 ∷ []) ≡ gate 1 2 3 ∷ gate 4 5 6 ∷ [])
     × (gatesOf (1 ∷ 2 ∷ 3 ∷ 4 ∷ []) ≡ gate 1 2 3 ∷ [])
     × (gatesOf (1 ∷ 2 ∷ 3 ∷ 4 ∷ 5 ∷ []) ≡ gate 1 2 3 ∷ [])
@@ -261,16 +294,18 @@ pub fields-pinned :
 unfolding codeOf
 fields-pinned = (refl, refl, refl, refl, refl, refl, refl, refl, refl, refl)
 
--- inputs 2, 4, latch (6,8), gates 8(2,4), 10(9,6), 12(2,10), roots 13, 8, 10, 1: what the lists hold afterwards
+-- inputs 2, 4, latch (6,8) unset, gates 8(2,4), 10(9,6), 12(2,10), roots 13, 8, 10, 1: what the lists hold afterwards
 abbrev ordered : Lent
 ordered =
-    lend plain 6 (2 ∷ 4 ∷ []) (6 ∷ []) (8 ∷ []) (8 ∷ 2 ∷ 4 ∷ 10 ∷ 9 ∷ 6 ∷ 12 ∷ 2 ∷ 10 ∷ []) (1 ∷ 0 ∷ 3 ∷ 0 ∷ 0 ∷ []) (13 ∷ 8 ∷ 10 ∷ 1 ∷ [])
+    lendWith plain 6 (2 ∷ 4 ∷ []) (6 ∷ []) (8 ∷ []) (6 ∷ []) (8 ∷ 2 ∷ 4 ∷ 10 ∷ 9 ∷ 6 ∷ 12 ∷ 2 ∷ 10 ∷ []) (1 ∷ 0 ∷ 3 ∷ 0 ∷ 0 ∷ [])
+    (13 ∷ 8 ∷ 10 ∷ 1 ∷ [])
 
 abbrev D : Ordered
 D =
     record {
       inputs = 2;
       nexts = 8 ∷ [];
+      resets = 6 ∷ [];
       gates = pair 4 2 ∷ pair 9 6 ∷ pair 10 2 ∷ [];
       counts = 1 ∷ 0 ∷ 3 ∷ 0 ∷ 0 ∷ [];
       roots = 13 ∷ 8 ∷ 10 ∷ 1 ∷ [];
@@ -286,6 +321,7 @@ pub ordered-pinned :
       inputs = 2 ∷ 4 ∷ [];
       states = 6 ∷ [];
       nexts = 8 ∷ [];
+      resets = 6 ∷ [];
       gates = gate 8 4 2 ∷ gate 10 9 6 ∷ gate 12 10 2 ∷ [];
       counts = 1 ∷ 0 ∷ 3 ∷ 0 ∷ 0 ∷ [];
       roots = 13 ∷ 8 ∷ 10 ∷ 1 ∷ [];
@@ -298,11 +334,12 @@ pub ordered-pinned :
     × (orderedGraph D ≡ record { sources = 2 ∷ 4 ∷ 6 ∷ []; gates = gate 8 4 2 ∷ gate 10 9 6 ∷ gate 12 10 2 ∷ [] })
     × (sourcesOf D ≡ 3)
     -- three inputs and a latch
-    × (given (record { inputs = 3; nexts = 0 ∷ []; gates = []; counts = []; roots = [] }) false false false .inputs ≡ (2 ∷ 4 ∷ 6 ∷ []))
-    × (given (record { inputs = 3; nexts = 0 ∷ []; gates = []; counts = []; roots = [] }) false false false .states ≡ (8 ∷ []))
-unfolding outcome conclusion tooBig misshapen tooShort after renumber codes walkAll walked start store flipped walk look imageIn entryImage
+    × (given (record { inputs = 3; nexts = 0 ∷ []; resets = 1 ∷ []; gates = []; counts = []; roots = [] }) false false false .inputs ≡ (2 ∷ 4 ∷ 6 ∷ []))
+    × (given (record { inputs = 3; nexts = 0 ∷ []; resets = 1 ∷ []; gates = []; counts = []; roots = [] }) false false false .states ≡ (8 ∷ []))
+    × (given (record { inputs = 3; nexts = 0 ∷ []; resets = 1 ∷ []; gates = []; counts = []; roots = [] }) false false false .resets ≡ (1 ∷ []))
+unfolding outcome conclusion tooBig misshapen tooShort after renumber numbered codes walkAll walked start store flipped walk look imageIn entryImage
     throughInputs settle settleOn settleAs already nextCode firstCode folded codeOf orderedOf imagesIn held given orderedGraph
-ordered-pinned = (refl, refl, refl, refl, refl, refl, refl, refl, refl, refl, refl, refl, refl)
+ordered-pinned = (refl, refl, refl, refl, refl, refl, refl, refl, refl, refl, refl, refl, refl, refl)
 
 -- ordered over one source: larger codes first and equal ones allowed, each below its gate's code, 4 and then 6; and three lists that are not
 pub order-pinned :
@@ -546,6 +583,6 @@ unfolding givenFrom
 givens-pinned given = refl
 
 pub pins : Computes cells × Computes order × Computes settings × Computes rows × Computes again × Computes shared
-unfolding outcome conclusion tooBig misshapen tooShort after renumber codes walkAll walked start store flipped walk look imageIn entryImage
+unfolding outcome conclusion tooBig misshapen tooShort after renumber numbered codes walkAll walked start store flipped walk look imageIn entryImage
     throughInputs settle settleOn settleAs already nextCode firstCode folded codeOf orderedOf imagesIn
 pins = (refl, refl, refl, refl, refl, refl)

@@ -6,7 +6,7 @@ use mathlib.Core.Logic.{_≢_}
 use mathlib.Core.List.{List, [], _∷_, _++_}
 use native.Mathlib.Omega.{arith}
 use Rattle.circuit.specs.declared.Refusal.{Refusal}
-use Rattle.circuit.specs.declared.Refusal.the-variants.{TooBig, Misshapen, Short, Over, Again, StateAgain, Undefined, Cycle}
+use Rattle.circuit.specs.declared.Refusal.the-variants.{TooBig, Misshapen, Short, Over, Reset, Again, StateAgain, Undefined, Cycle}
 use Rattle.circuit.specs.Refusals.{refusalNumber}
 use Rattle.circuit.specs.Graph.{Gate, DefinedOnce}
 use Rattle.circuit.specs.Walk.{Net, Work, Out, reached, stopped, Look, mapped, refused, enter, look, answer, andThen, throughInputs, noRoom, walk, stackRoom, walkAll}
@@ -84,6 +84,7 @@ module _ (C : Circuit) (limits : Limits C) (b : InBounds C) (once : DefinedOnce 
       go Misshapen k n = absurd k
       go Short k n = absurd k
       go (Over l) k n = absurd k
+      go (Reset l) k n = absurd k
       go (Again l) k n = absurd k
       go (StateAgain l) k n = absurd k
       go (Undefined l) k n = bySeven l

@@ -8,7 +8,7 @@ use Rattle.token.specs.declared.Token.the-variants.{Value}
 use Rattle.circuit.specs.declared.Refusal.the-variants.{TooBig, Cycle}
 use Rattle.circuit.specs.Map.{entryImage, imageIn, store, codeOf}
 use Rattle.circuit.specs.Walk.{firstCode, nextCode, folded, already, settleAs, settleOn, settle, stopped, look, throughInputs, walk, walkAll}
-use Rattle.circuit.specs.Circuit.{net, codes, start, walked, renumber}
+use Rattle.circuit.specs.Circuit.{net, codes, start, walked, numbered, renumber}
 use Rattle.circuit.specs.Ordered.{imagesIn, orderedOf}
 use Rattle.circuit.specs.Outcome.{Lent, circuitOf, tooBig, misshapen, tooShort, conclusion, after, outcome}
 use Rattle.circuit.specs.Lending.{plain, hashing, folding, trimFolding, circuit, Example, success, refusal}
@@ -56,6 +56,6 @@ pub starred :
     × (tokenNumber (deltaAt (0x07 ∷ []) 0 6) ≡ 17)
     × (tokenNumber (deltaAt (0x80 ∷ []) 0 6) ≡ 15)
     × (tokenNumber (deltaAt (0x80 ∷ 0x80 ∷ 0x80 ∷ 0x80 ∷ 0x80 ∷ 0x80 ∷ 0x80 ∷ 0x80 ∷ []) 0 6) ≡ 16)
-unfolding outcome conclusion tooBig misshapen tooShort after renumber codes walkAll walked start store flipped walk look imageIn entryImage
+unfolding outcome conclusion tooBig misshapen tooShort after renumber numbered codes walkAll walked start store flipped walk look imageIn entryImage
     throughInputs settle settleOn settleAs already nextCode firstCode folded codeOf orderedOf imagesIn deltaAt binaryAt goOnAt
 starred = (refl, refl, refl, refl, refl, refl, refl)

@@ -1,7 +1,7 @@
 -- What holds after success: the lent lists hold the walk's map, images and gates, so each fact about the walk's work is a fact about them. Assumes
 -- nothing.
 use Prim.Native.Nat.{ℕ, suc, _+_, _*_, _-_, _<_, _≤_}
-use mathlib.Core.Path.{_≡_, refl, sym, _∙_, ap, subst, subst⁻¹}
+use mathlib.Core.Path.{_≡_, refl, sym, _∙_, ap, ap₂, subst, subst⁻¹}
 use mathlib.Core.Logic.{inl, inr, _≢_}
 use mathlib.Core.Bool.{Bool, true, false, cond}
 use mathlib.Core.Option.{Option, none, some}
@@ -17,11 +17,11 @@ use Rattle.circuit.specs.Graph.{In, Means}
 use Rattle.circuit.specs.Map.{noImage, imageIn, imageOf, codeOf}
 use Rattle.circuit.specs.Walk.{sourceCount, Pair, Work, reached, firstCode, nextCode, already}
 use Rattle.circuit.specs.Circuit.{Circuit, graph, net, walked, gateOutputs}
-use Rattle.circuit.specs.Ordered.{Ordered, orderedWith, imagesIn, orderedOf, sourcesOf, orderedGraph, noPair, InOrder}
+use Rattle.circuit.specs.Ordered.{Ordered, orderedWith, imagesIn, carriedFrom, firstLatch, countFrom, orderedOf, sourcesOf, orderedGraph, noPair, InOrder}
 use Rattle.circuit.specs.Outcome.{Lent, Outcome, circuitOf, conclusion, onto, zeros, pairWords, pairsOf, summaryOf, outcome, held}
 use Rattle.circuit.specs.declared.Summary.{Summary}
 use Rattle.circuit.specs.declared.Answer.the-variants.{Renumbered}
-use Rattle.circuit.specs.Claims.{HasImage, Named, SameValue, Roomy}
+use Rattle.circuit.specs.Claims.{AllReset, firstValue, HasImage, Named, SameValue, Roomy}
 use Rattle.circuit.specs.Tested.{Fits, Tested}
 use Rattle.circuit.proofs.Tests.{AtMost, atMost, above, leTest}
 use Rattle.circuit.proofs.Map.{code-image, image-code, no-image, code-in, image-entry}
@@ -33,6 +33,7 @@ use Rattle.circuit.proofs.Invariant.{lit-reads, flipped-below, codes-fi
 use Rattle.circuit.proofs.Ordered.{ordered-once, ordered-means}
 use Rattle.circuit.proofs.Renumber.{Done, sized, counting, reach-mapped}
 use Rattle.circuit.proofs.Words.{pairs-length, pairs-back}
+use Rattle.circuit.proofs.Carried.{carried-length, carried-at, carried-first, all-carried}
 use Rattle.circuit.proofs.Outcome.{agrees, limits, tested-of, concluded, Concluded, roomy, success-from, success-of, onto-long, onto-take, onto-at, getD-map-in}
 use Rattle.circuit.specs.Invariant.{val, Inv, entry, codeIn}
 
@@ -47,7 +48,7 @@ module _ (l : Lent) (w : Work) (e : conclusion l ≡ reached w) where
   facts = subst (Concluded l) e (concluded l)
 
   pub tested : Tested l
-  tested = tested-of l (facts .0) (facts .1 .bounds)
+  tested = tested-of l (facts .0) (facts .1 .bounds, facts .1 .resets)
 
   abbrev done : Done C w
   done = facts .1
@@ -57,6 +58,13 @@ module _ (l : Lent) (w : Work) (e : conclusion l ≡ reached w) where
 
   latches : length (C .states) ≡ length (C .nexts)
   latches = agrees l (facts .0 .two) .latches
+
+  resets : length (C .resets) ≡ length (C .states)
+  resets = sym (agrees l (facts .0 .two) .resets)
+
+  -- the resets carried over
+  abbrev resetsNow : List ℕ
+  resetsNow = carriedFrom (firstLatch (length (C .inputs))) (C .resets)
 
   room : Roomy l C
   room = roomy l (facts .0 .three)
@@ -101,6 +109,9 @@ module _ (l : Lent) (w : Work) (e : conclusion l ≡ reached w) where
       let nexts : take (length (l .states)) (outcome l .nextImages) ≡ imagesIn (w .images) (C .nexts)
       = ap (λ (o : Outcome). take (length (l .states)) (o .nextImages)) (success-of l w e)
       ∙ onto-take (imagesIn (w .images) (C .nexts)) (l .nextImages) (length (l .states)) (images-length (C .nexts) ∙ sym latches) (room .nexts) in
+      let carry : take (length (l .states)) (outcome l .resetImages) ≡ resetsNow
+      = ap (λ (o : Outcome). take (length (l .states)) (o .resetImages)) (success-of l w e)
+      ∙ onto-take resetsNow (l .resetImages) (length (l .states)) (carried-length (firstLatch (length (C .inputs))) (C .resets) ∙ resets) (room .resets) in
       let roots : take (length (l .roots)) (outcome l .rootImages) ≡ imagesIn (w .images) (C .roots)
       = ap (λ (o : Outcome). take (length (l .roots)) (o .rootImages)) (success-of l w e)
       ∙ onto-take (imagesIn (w .images) (C .roots)) (l .rootImages) (length (l .roots)) (images-length (C .roots)) (room .roots) in
@@ -124,10 +135,23 @@ module _ (l : Lent) (w : Work) (e : conclusion l ≡ reached w) where
       (omega (arith, length-append (pairWords (w .made)) rest, pairs-length (w .made)))
       ∙ take-at (pairWords (w .made)) rest (2 * length (w .made)) (pairs-length (w .made)))
       ∙ pairs-back (w .made) in
-      ap (λ (x : List ℕ). orderedWith C x (pairsOf (take (2 * length (w .made)) (outcome l .gatesOut)))
-      (take (length (l .roots)) (outcome l .rootImages))) nexts
-      ∙ ap (λ (x : List Pair). orderedWith C (imagesIn (w .images) (C .nexts)) x (take (length (l .roots)) (outcome l .rootImages))) gates
-      ∙ ap (λ (x : List ℕ). orderedWith C (imagesIn (w .images) (C .nexts)) (w .made) x) roots
+      ap₂ (λ (x y : List ℕ). orderedWith C x y (pairsOf (take (2 * length (w .made)) (outcome l .gatesOut)))
+      (take (length (l .roots)) (outcome l .rootImages))) nexts carry
+      ∙ ap (λ (x : List Pair). orderedWith C (imagesIn (w .images) (C .nexts)) resetsNow x (take (length (l .roots)) (outcome l .rootImages))) gates
+      ∙ ap (λ (x : List ℕ). orderedWith C (imagesIn (w .images) (C .nexts)) resetsNow (w .made) x) roots
+
+  -- the resets of the ordered circuit: each has the first value that it had, and they pass check 22
+  pub first-value : (j : ℕ) → j < length (l .states) → firstValue (getD (O .resets) j 0) ≡ firstValue (getD (l .resets) j 0)
+  unfolding orderedOf
+  first-value j h =
+      ap firstValue (carried-at (firstLatch (length (C .inputs))) (C .resets) j (omega (arith, resets)))
+      ∙ carried-first (firstLatch (length (C .inputs)) + 2 * j) (getD (l .resets) j 0) (omega arith)
+
+  pub resets-pass : AllReset (countFrom (firstLatch (O .inputs)) (length (O .nexts))) (O .resets)
+  unfolding orderedOf
+  resets-pass =
+      all-carried (firstLatch (length (C .inputs))) (length (imagesIn (w .images) (C .nexts))) (C .resets)
+      (omega (arith, images-length (C .nexts), resets, latches))
 
   pub in-order : InOrder (sourcesOf O) (O .gates)
   unfolding orderedOf

@@ -12,11 +12,10 @@ use Rattle.circuit.specs.declared.Refusal.{Refusal}
 use Rattle.circuit.specs.declared.Summary.{Summary}
 use Rattle.circuit.specs.declared.Answer.{Answer}
 use Rattle.circuit.specs.declared.Answer.the-variants.{Renumbered, Refused}
-use Rattle.circuit.specs.Refusals.{refusalNumber}
 use Rattle.circuit.specs.Graph.{In, Gate, outVar}
 use Rattle.circuit.specs.Circuit.{Circuit}
 use Rattle.circuit.specs.Outcome.{Lent, Outcome, circuitOf, outcomeOf, held}
-use Rattle.circuit.specs.Claims.{HasImage, Named, Folds, imageAfter, largerAfter, smallerAfter, Taken, Untaken, Stays, IsNew, Keeps, Filled}
+use Rattle.circuit.specs.Claims.{HasImage, Named, Folds, imageAfter, largerAfter, smallerAfter, Taken, Untaken, Stays, IsNew, Keeps, Filled, Early, Late}
 use Rattle.circuit.specs.Demands.{Demands, AfterSuccess}
 use Rattle.circuit.proofs.Tests.{lt-or}
 use Rattle.lit.proofs.Flips.{parity}
@@ -42,31 +41,31 @@ same-filled n word before xs ys p q = same-kept n before xs ys (p .past) (q .pas
 same-whole : (before xs ys : List ℕ) → Keeps 0 before xs → Keeps 0 before ys → xs ≡ ys
 same-whole before xs ys p q = same-kept 0 before xs ys p q (λ i k. absurd (omega arith))
 
-same-outcome : (o o′ : Outcome) → o .answer ≡ o′ .answer → o .map ≡ o′ .map → o .nextImages ≡ o′ .nextImages → o .rootImages ≡ o′ .rootImages
-    → o .gatesOut ≡ o′ .gatesOut → o .scratch ≡ o′ .scratch → o ≡ o′
-same-outcome o o′ a m n r g s =
-    ap (λ (x : Answer). outcomeOf x (o .map) (o .nextImages) (o .rootImages) (o .gatesOut) (o .scratch)) a
-    ∙ ap₂ (λ (x y : List ℕ). outcomeOf (o′ .answer) x y (o .rootImages) (o .gatesOut) (o .scratch)) m n
-    ∙ ap₂ (λ (x y : List ℕ). outcomeOf (o′ .answer) (o′ .map) (o′ .nextImages) x y (o .scratch)) r g
-    ∙ ap (λ (x : List ℕ). outcomeOf (o′ .answer) (o′ .map) (o′ .nextImages) (o′ .rootImages) (o′ .gatesOut) x) s
+same-outcome : (o o′ : Outcome) → o .answer ≡ o′ .answer → o .map ≡ o′ .map → o .nextImages ≡ o′ .nextImages → o .resetImages ≡ o′ .resetImages
+    → o .rootImages ≡ o′ .rootImages → o .gatesOut ≡ o′ .gatesOut → o .scratch ≡ o′ .scratch → o ≡ o′
+same-outcome o o′ a m n t r g s =
+    ap (λ (x : Answer). outcomeOf x (o .map) (o .nextImages) (o .resetImages) (o .rootImages) (o .gatesOut) (o .scratch)) a
+    ∙ ap₂ (λ (x y : List ℕ). outcomeOf (o′ .answer) x y (o .resetImages) (o .rootImages) (o .gatesOut) (o .scratch)) m n
+    ∙ ap₂ (λ (x y : List ℕ). outcomeOf (o′ .answer) (o′ .map) (o′ .nextImages) x y (o .gatesOut) (o .scratch)) t r
+    ∙ ap₂ (λ (x y : List ℕ). outcomeOf (o′ .answer) (o′ .map) (o′ .nextImages) (o′ .resetImages) (o′ .rootImages) x y) g s
 
 module _ (l : Lent) (o o′ : Outcome) (d : Demands l (circuitOf l) o) (d′ : Demands l (circuitOf l) o′) (one : o .answer ≡ o′ .answer) where
   abbrev C : Circuit
   C = circuitOf l
 
   -- a refusal: every list kept, or cleared as far as it is named
-  after-refusal : (r : Refusal) → o .answer ≡ Refused r → (refusalNumber r < 5) ⊎ (5 ≤ refusalNumber r) → o ≡ o′
+  after-refusal : (r : Refusal) → o .answer ≡ Refused r → Early r ⊎ Late r → o ≡ o′
   after-refusal r e (inl h) =
-      let p = d .earlyRefusalsKeep r e (omega arith) in
-      let q = d′ .earlyRefusalsKeep r (sym one ∙ e) (omega arith) in
+      let p = d .earlyRefusalsKeep r e h in
+      let q = d′ .earlyRefusalsKeep r (sym one ∙ e) h in
       same-outcome o o′ one (same-whole (l .map) _ _ (p .map) (q .map)) (same-whole (l .nextImages) _ _ (p .nexts) (q .nexts))
-      (same-whole (l .rootImages) _ _ (p .roots) (q .roots)) (same-whole (l .gatesOut) _ _ (p .gates) (q .gates))
+      (same-whole (l .resetImages) _ _ (p .resets) (q .resets)) (same-whole (l .rootImages) _ _ (p .roots) (q .roots)) (same-whole (l .gatesOut) _ _ (p .gates) (q .gates))
       (same-whole (l .scratch) _ _ (p .scratch) (q .scratch))
   after-refusal r e (inr h) =
       let p = d .lateRefusalsClear r e h in
       let q = d′ .lateRefusalsClear r (sym one ∙ e) h in
       same-outcome o o′ one (same-filled _ _ (l .map) _ _ (p .map) (q .map)) (same-filled _ _ (l .nextImages) _ _ (p .nexts) (q .nexts))
-      (same-filled _ _ (l .rootImages) _ _ (p .roots) (q .roots)) (same-filled _ _ (l .gatesOut) _ _ (p .gates) (q .gates))
+      (same-filled _ _ (l .resetImages) _ _ (p .resets) (q .resets)) (same-filled _ _ (l .rootImages) _ _ (p .roots) (q .roots)) (same-filled _ _ (l .gatesOut) _ _ (p .gates) (q .gates))
       (same-filled _ _ (l .scratch) _ _ (p .scratch) (q .scratch))
 
   -- a success: all else is read off the map
@@ -88,6 +87,9 @@ module _ (l : Lent) (o o′ : Outcome) (d : Demands l (circuitOf l) o) (d′ : D
         let c : ℕ = getD (l .nexts) j 0 in
         let low = here .imageCells c (literal (getD (o .nextImages) j 0)) .0 (here .nextImages j (omega (arith, latches))) .0 in
         here .fills .nexts j h ∙ after-same c low ∙ sym (there .fills .nexts j h)
+
+    reset-same : (j : ℕ) → j < length (C .states) → getD (o .resetImages) j 0 ≡ getD (o′ .resetImages) j 0
+    reset-same j h = here .fills .resets j h ∙ sym (there .fills .resets j h)
 
     root-same : (j : ℕ) → j < length (C .roots) → getD (o .rootImages) j 0 ≡ getD (o′ .rootImages) j 0
     root-same j h =
@@ -153,6 +155,7 @@ module _ (l : Lent) (o o′ : Outcome) (d : Demands l (circuitOf l) o) (d′ : D
         let q = d′ .pastKept in
         same-outcome o o′ one (same-kept _ (l .map) _ _ (p .map) (q .map) (λ v h. same v (omega arith)))
         (same-kept _ (l .nextImages) _ _ (p .nexts) (q .nexts) next-same)
+        (same-kept _ (l .resetImages) _ _ (p .resets) (q .resets) reset-same)
         (same-kept _ (l .rootImages) _ _ (p .roots) (q .roots) root-same)
         (same-kept _ (l .gatesOut) _ _ (p .gates) (q .gates) (λ i h. word-same i h (lt-or i (2 * s .made)) (parity i)))
         (same-filled _ _ (l .scratch) _ _ (here .fills .scratch) (there .fills .scratch))
@@ -164,4 +167,4 @@ told l o o′ d d′ one same = go (o .answer) refl
   where
     go : (a : Answer) → o .answer ≡ a → o ≡ o′
     go (Renumbered s) e = after-success l o o′ d d′ one s e (same s e)
-    go (Refused r) e = after-refusal l o o′ d d′ one r e (lt-or (refusalNumber r) 5)
+    go (Refused r) e = after-refusal l o o′ d d′ one r e (d .earlyOrLate r)

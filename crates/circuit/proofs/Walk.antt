@@ -14,7 +14,7 @@ use Rattle.lit.specs.Code.{var, literal}
 use Rattle.circuit.specs.declared.Image.{Image}
 use Rattle.circuit.specs.declared.Image.the-variants.{Absent, Code}
 use Rattle.circuit.specs.declared.Refusal.{Refusal}
-use Rattle.circuit.specs.declared.Refusal.the-variants.{TooBig, Misshapen, Short, Over, Again, StateAgain, Undefined, Cycle}
+use Rattle.circuit.specs.declared.Refusal.the-variants.{TooBig, Misshapen, Short, Over, Reset, Again, StateAgain, Undefined, Cycle}
 use Rattle.circuit.specs.Graph.{In, Gate, Graph, outVar, defined, DefinedOnce, gateFor, Step, toFirst, toSecond, Reach, here, via, Loop, Uses, itself}
 use Rattle.circuit.specs.Map.{noImage, imageIn}
 use Rattle.circuit.specs.Walk.{Net, Work, Out, reached, stopped, Look, mapped, refused, enter, isMiddle, lookAt, look, andThen, throughInputs, answer, noRoom, walk, walkAll, settle}
@@ -36,6 +36,7 @@ Cause G c TooBig = Unit {0}
 Cause G c Misshapen = ⊥
 Cause G c Short = ⊥
 Cause G c (Over l) = ⊥
+Cause G c (Reset l) = ⊥
 Cause G c (Again l) = ⊥
 Cause G c (StateAgain l) = ⊥
 Cause G c (Undefined l) = Uses G c (l .0) × (In (var (l .0)) (defined G) → ⊥)
@@ -47,6 +48,7 @@ Cause-from f TooBig k = k
 Cause-from f Misshapen k = k
 Cause-from f Short k = k
 Cause-from f (Over l) k = k
+Cause-from f (Reset l) k = k
 Cause-from f (Again l) k = k
 Cause-from f (StateAgain l) k = k
 Cause-from f (Undefined l) k = (f (l .0) (k .0), k .1)

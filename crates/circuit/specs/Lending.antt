@@ -42,40 +42,52 @@ cells n = replicate (n + 1) untouchedCell
 abbrev pub wrote : List ℕ → List ℕ
 wrote ws = ws ++ (untouchedCell ∷ [])
 
--- flags, V, inputs, latch states, next states, gates (flat), root counts, roots
+-- flags, V, inputs, latch states, next states, resets, gates (flat), root counts, roots
+abbrev pub lendWith : Flags → ℕ → List ℕ → List ℕ → List ℕ → List ℕ → List ℕ → List ℕ → List ℕ → Lent
+lendWith f top inputs states nexts resets gates counts roots =
+    lentOf (record { top = variable top; counts = counts; trim = f .trim; hash = f .hash; fold = f .fold }) inputs states nexts resets gates roots
+    (cells (top + 1)) (cells (length states)) (cells (length states)) (cells (length roots)) (cells (2 * (length gates / 3)))
+    (cells (3 * top + 3 + 3 * (length gates / 3)))
+
+-- the same with every reset 0
 abbrev pub lend : Flags → ℕ → List ℕ → List ℕ → List ℕ → List ℕ → List ℕ → List ℕ → Lent
-lend f top inputs states nexts gates counts roots =
-    lentOf (record { top = variable top; counts = counts; trim = f .trim; hash = f .hash; fold = f .fold }) inputs states nexts gates roots
-    (cells (top + 1)) (cells (length states)) (cells (length roots)) (cells (2 * (length gates / 3))) (cells (3 * top + 3 + 3 * (length gates / 3)))
+lend f top inputs states nexts gates counts roots = lendWith f top inputs states nexts (replicate (length states) 0) gates counts roots
 
 -- the same without latches, all roots outputs
 abbrev pub circuit : Flags → ℕ → List ℕ → List ℕ → List ℕ → Lent
 circuit f top inputs gates roots = lend f top inputs [] [] gates (length roots ∷ 0 ∷ 0 ∷ 0 ∷ 0 ∷ []) roots
 
--- success with a number of gates made and a new largest variable: map, next images, gates out (as far as written), root images
-abbrev pub succeeds : Lent → ℕ → ℕ → List ℕ → List ℕ → List ℕ → List ℕ → Outcome
-succeeds l made top map nexts gates roots =
-    outcomeOf (Renumbered (record { made = made; top = variable top })) (wrote map) (wrote nexts) (wrote roots) (wrote gates)
+-- success with a number of gates made and a new largest variable: map, next images, reset images, gates out (as far as written), root images
+abbrev pub succeedsWith : Lent → ℕ → ℕ → List ℕ → List ℕ → List ℕ → List ℕ → List ℕ → Outcome
+succeedsWith l made top map nexts resets gates roots =
+    outcomeOf (Renumbered (record { made = made; top = variable top })) (wrote map) (wrote nexts) (wrote resets) (wrote roots) (wrote gates)
     (wrote (replicate (length (l .scratch) - 1) 0))
+
+-- the same with every reset image 0
+abbrev pub succeeds : Lent → ℕ → ℕ → List ℕ → List ℕ → List ℕ → List ℕ → Outcome
+succeeds l made top map nexts gates roots = succeedsWith l made top map nexts (replicate (length nexts) 0) gates roots
 
 -- a refusal of 5 to 8
 abbrev pub clears : Lent → Refusal → Outcome
 clears l why =
     outcomeOf (Refused why) (wrote (replicate (length (l .map) - 1) 4294967295)) (wrote (replicate (length (l .nextImages) - 1) 0))
-    (wrote (replicate (length (l .rootImages) - 1) 0)) (wrote (replicate (length (l .gatesOut) - 1) 0)) (wrote (replicate (length (l .scratch) - 1) 0))
+    (wrote (replicate (length (l .resetImages) - 1) 0)) (wrote (replicate (length (l .rootImages) - 1) 0)) (wrote (replicate (length (l .gatesOut) - 1) 0)) (wrote (replicate (length (l .scratch) - 1) 0))
 
--- a refusal of 1 to 4
+-- a refusal of 1 to 4 or 22
 abbrev pub leaves : Lent → Refusal → Outcome
-leaves l why = outcomeOf (Refused why) (l .map) (l .nextImages) (l .rootImages) (l .gatesOut) (l .scratch)
+leaves l why = outcomeOf (Refused why) (l .map) (l .nextImages) (l .resetImages) (l .rootImages) (l .gatesOut) (l .scratch)
 
 -- an example: what is lent comes to this
 pub record Example : Type 0 where
   pub lent : Lent
   pub expected : Outcome
 
--- an example that succeeds, one refused by 5 to 8, one refused by 1 to 4
+-- an example that succeeds, one whose resets are told too, one refused by 5 to 8, one refused by 1 to 4 or 22
 abbrev pub success : Lent → ℕ → ℕ → List ℕ → List ℕ → List ℕ → List ℕ → Example
 success l made top map nexts gates roots = record { lent = l; expected = succeeds l made top map nexts gates roots }
+
+abbrev pub successWith : Lent → ℕ → ℕ → List ℕ → List ℕ → List ℕ → List ℕ → List ℕ → Example
+successWith l made top map nexts resets gates roots = record { lent = l; expected = succeedsWith l made top map nexts resets gates roots }
 
 abbrev pub refusal : Lent → Refusal → Example
 refusal l why = record { lent = l; expected = clears l why }

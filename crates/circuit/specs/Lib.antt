@@ -8,6 +8,7 @@ pub mod Outcome
 pub mod Claims
 pub mod Tested
 pub mod Demands
+pub mod Resets
 pub mod Machine
 pub mod Invariant
 pub mod Lending

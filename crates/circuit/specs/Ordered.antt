@@ -1,7 +1,8 @@
 -- The ordered circuit that comes of a renumbering: inputs have the codes 2, 4, .., then come latch states, then gates. Assumes nothing.
 use Prim.Native.Nat.{ℕ, zero, suc, _+_, _*_, _<_, _≤_}
-use mathlib.Core.Bool.{Bool, true, false, not, _&&_}
+use mathlib.Core.Bool.{Bool, true, false, cond, not, _&&_}
 use mathlib.Core.List.{List, [], _∷_, _++_, map}
+use lib.Dec.{leb}
 use lib.ListN.{length, getD}
 use Rattle.lit.specs.Code.{var, isOdd}
 use Rattle.circuit.specs.Graph.{Gate, Graph}
@@ -9,25 +10,42 @@ use Rattle.circuit.specs.Map.{imageIn, codeOf}
 use Rattle.circuit.specs.Walk.{Pair, Work, firstCode}
 use Rattle.circuit.specs.Circuit.{Circuit, graph}
 
--- the number of inputs, next states (as many as latches), gates by their inputs, the row of root counts, roots
+-- the number of inputs, next states (as many as latches), resets (as many too), gates by their inputs, the row of root counts, roots
 pub record Ordered : Type 0 where
   pub inputs : ℕ
   pub nexts : List ℕ
+  pub resets : List ℕ
   pub gates : List Pair
   pub counts : List ℕ
   pub roots : List ℕ
 
--- C, ordered, with these next states, gates and roots
-abbrev pub orderedWith : Circuit → List ℕ → List Pair → List ℕ → Ordered
-orderedWith C nexts gates roots = record { inputs = length (C .inputs); nexts = nexts; gates = gates; counts = C .counts; roots = roots }
+-- C, ordered, with these next states, resets, gates and roots
+abbrev pub orderedWith : Circuit → List ℕ → List ℕ → List Pair → List ℕ → Ordered
+orderedWith C nexts resets gates roots =
+    record { inputs = length (C .inputs); nexts = nexts; resets = resets; gates = gates; counts = C .counts; roots = roots }
 
 -- the images of literals
 unfoldable pub imagesIn : List ℕ → List ℕ → List ℕ
 imagesIn m cs = map (λ c. codeOf (imageIn m c)) cs
 
+-- a reset carried over: 0 stays 0, 1 stays 1, and that of an unset latch is its new literal
+abbrev pub carried : ℕ → ℕ → ℕ
+carried own r = cond (leb r 1) r own
+
+-- so with all, where the latches have the new literals t, t + 2, ..
+abbrev pub carriedFrom : ℕ → List ℕ → List ℕ
+carriedFrom t [] = []
+carriedFrom t (r ∷ rs) = carried t r ∷ carriedFrom (t + 2) rs
+
+-- the new literal of the first latch after n inputs
+abbrev pub firstLatch : ℕ → ℕ
+firstLatch n = 2 + 2 * n
+
 -- C, ordered by a walk
 unfoldable pub orderedOf : Circuit → Work → Ordered
-orderedOf C w = orderedWith C (imagesIn (w .images) (C .nexts)) (w .made) (imagesIn (w .images) (C .roots))
+orderedOf C w =
+    orderedWith C (imagesIn (w .images) (C .nexts)) (carriedFrom (firstLatch (length (C .inputs))) (C .resets)) (w .made)
+    (imagesIn (w .images) (C .roots))
 
 -- the even codes t, t + 2, ..
 abbrev pub countFrom : ℕ → ℕ → List ℕ
@@ -49,8 +67,9 @@ given O trim hash fold =
     record {
       top = sourcesOf O + length (O .gates);
       inputs = countFrom 2 (O .inputs);
-      states = countFrom (2 + 2 * O .inputs) (length (O .nexts));
+      states = countFrom (firstLatch (O .inputs)) (length (O .nexts));
       nexts = O .nexts;
+      resets = O .resets;
       gates = gatesFrom (firstCode (sourcesOf O)) (O .gates);
       counts = O .counts;
       roots = O .roots;

@@ -24,10 +24,12 @@ pub record Lent : Type 0 where
   pub inputs : List ℕ
   pub states : List ℕ
   pub nexts : List ℕ
+  pub resets : List ℕ
   pub gates : List ℕ
   pub roots : List ℕ
   pub map : List ℕ
   pub nextImages : List ℕ
+  pub resetImages : List ℕ
   pub rootImages : List ℕ
   pub gatesOut : List ℕ
   pub scratch : List ℕ
@@ -37,30 +39,41 @@ pub record Outcome : Type 0 where
   pub answer : Answer
   pub map : List ℕ
   pub nextImages : List ℕ
+  pub resetImages : List ℕ
   pub rootImages : List ℕ
   pub gatesOut : List ℕ
   pub scratch : List ℕ
 
 -- what is lent, from its parts; and an outcome, from an answer and the written lists
-abbrev pub lentOf : CircuitRecord → List ℕ → List ℕ → List ℕ → List ℕ → List ℕ → List ℕ → List ℕ → List ℕ → List ℕ → List ℕ → Lent
-lentOf c inputs states nexts gates roots map nextImages rootImages gatesOut scratch =
+abbrev pub lentOf : CircuitRecord → List ℕ → List ℕ → List ℕ → List ℕ → List ℕ → List ℕ → List ℕ → List ℕ → List ℕ → List ℕ → List ℕ → List ℕ → Lent
+lentOf c inputs states nexts resets gates roots map nextImages resetImages rootImages gatesOut scratch =
     record {
       circuit = c;
       inputs = inputs;
       states = states;
       nexts = nexts;
+      resets = resets;
       gates = gates;
       roots = roots;
       map = map;
       nextImages = nextImages;
+      resetImages = resetImages;
       rootImages = rootImages;
       gatesOut = gatesOut;
       scratch = scratch;
     }
 
-abbrev pub outcomeOf : Answer → List ℕ → List ℕ → List ℕ → List ℕ → List ℕ → Outcome
-outcomeOf answer map nextImages rootImages gatesOut scratch =
-    record { answer = answer; map = map; nextImages = nextImages; rootImages = rootImages; gatesOut = gatesOut; scratch = scratch }
+abbrev pub outcomeOf : Answer → List ℕ → List ℕ → List ℕ → List ℕ → List ℕ → List ℕ → Outcome
+outcomeOf answer map nextImages resetImages rootImages gatesOut scratch =
+    record {
+      answer = answer;
+      map = map;
+      nextImages = nextImages;
+      resetImages = resetImages;
+      rootImages = rootImages;
+      gatesOut = gatesOut;
+      scratch = scratch;
+    }
 
 -- what a function leaves when it returns, as a contract writes it down, a field a line
 abbrev pub left : Outcome → Outcome
@@ -81,6 +94,7 @@ circuitOf l =
       inputs = l .inputs;
       states = l .states;
       nexts = l .nexts;
+      resets = l .resets;
       gates = gatesOf (l .gates);
       counts = l .circuit .counts;
       roots = l .roots;
@@ -106,7 +120,8 @@ total (x ∷ xs) = x + total xs
 -- check 2: the root counts, the latches, or the words of the flat gate list do not agree
 unfoldable pub misshapen : Lent → Bool
 misshapen l =
-    not (eqb (total (l .circuit .counts)) (length (l .roots))) || not (eqb (length (l .states)) (length (l .nexts))) || not (eqb (length (l .gates) % 3) 0)
+    not (eqb (total (l .circuit .counts)) (length (l .roots))) || not (eqb (length (l .states)) (length (l .nexts)))
+    || not (eqb (length (l .states)) (length (l .resets))) || not (eqb (length (l .gates) % 3) 0)
 
 -- words of the map, and of the scratch
 abbrev pub mapWords : Circuit → ℕ
@@ -118,8 +133,8 @@ scratchWords C = 3 * C .top + 3 + 3 * length (C .gates)
 -- check 3: a lent list is too short
 unfoldable pub tooShort : Lent → Circuit → Bool
 tooShort l C =
-    ltb (length (l .map)) (mapWords C) || ltb (length (l .nextImages)) (length (C .states)) || ltb (length (l .rootImages)) (length (C .roots))
-    || ltb (length (l .gatesOut)) (2 * length (C .gates)) || ltb (length (l .scratch)) (scratchWords C)
+    ltb (length (l .map)) (mapWords C) || ltb (length (l .nextImages)) (length (C .states)) || ltb (length (l .resetImages)) (length (C .states))
+    || ltb (length (l .rootImages)) (length (C .roots)) || ltb (length (l .gatesOut)) (2 * length (C .gates)) || ltb (length (l .scratch)) (scratchWords C)
 
 -- a check that does not hold refuses; else what comes after
 abbrev pub orStop : Bool → Refusal → Out → Out
@@ -155,23 +170,29 @@ summaryOf O = record { made = length (O .gates); top = variable (sourcesOf O + l
 -- after success: the map, the images, the gates made and zeros up to as many gates as there were, and zeros in the scratch
 abbrev pub written : Lent → Circuit → List ℕ → Ordered → Outcome
 written l C images O =
-    outcomeOf (Renumbered (summaryOf O)) (onto images (l .map)) (onto (O .nexts) (l .nextImages)) (onto (O .roots) (l .rootImages))
+    outcomeOf (Renumbered (summaryOf O)) (onto images (l .map)) (onto (O .nexts) (l .nextImages)) (onto (O .resets) (l .resetImages))
+    (onto (O .roots) (l .rootImages))
     (onto (pairWords (O .gates) ++ zeros (2 * (length (C .gates) - length (O .gates)))) (l .gatesOut)) (onto (zeros (scratchWords C)) (l .scratch))
 
 -- after refusals 5 to 8: no images in the map, and zeros in the other lists
 abbrev pub cleared : Lent → Circuit → Refusal → Outcome
 cleared l C why =
     outcomeOf (Refused why) (onto (replicate (mapWords C) noImage) (l .map)) (onto (zeros (length (C .states))) (l .nextImages))
-    (onto (zeros (length (C .roots))) (l .rootImages)) (onto (zeros (2 * length (C .gates))) (l .gatesOut)) (onto (zeros (scratchWords C)) (l .scratch))
+    (onto (zeros (length (C .states))) (l .resetImages)) (onto (zeros (length (C .roots))) (l .rootImages))
+    (onto (zeros (2 * length (C .gates))) (l .gatesOut)) (onto (zeros (scratchWords C)) (l .scratch))
 
--- after refusals 1 to 4: every list as it was lent
+-- after refusals 1 to 4 and 22: every list as it was lent
 abbrev pub untouched : Lent → Refusal → Outcome
-untouched l why = outcomeOf (Refused why) (l .map) (l .nextImages) (l .rootImages) (l .gatesOut) (l .scratch)
+untouched l why = outcomeOf (Refused why) (l .map) (l .nextImages) (l .resetImages) (l .rootImages) (l .gatesOut) (l .scratch)
+
+-- refusals 1 to 4 and 22 come before anything is written
+abbrev pub isEarly : Refusal → Bool
+isEarly why = leb (refusalNumber why) 4 || eqb (refusalNumber why) 22
 
 -- the outcome of a conclusion
 unfoldable pub after : Lent → Out → Outcome
 after l (reached w) = written l (circuitOf l) (w .images) (orderedOf (circuitOf l) w)
-after l (stopped why) = cond (leb (refusalNumber why) 4) (untouched l why) (cleared l (circuitOf l) why)
+after l (stopped why) = cond (isEarly why) (untouched l why) (cleared l (circuitOf l) why)
 
 -- the whole: what renumbering answers, and what each written list is afterwards
 unfoldable pub outcome : Lent → Outcome
@@ -180,5 +201,5 @@ outcome l = after l (conclusion l)
 -- the ordered circuit that the written lists hold, after a success that answered s
 unfoldable pub held : Lent → Summary → Outcome → Ordered
 held l s o =
-    orderedWith (circuitOf l) (take (length (l .states)) (o .nextImages)) (pairsOf (take (2 * s .made) (o .gatesOut)))
-    (take (length (l .roots)) (o .rootImages))
+    orderedWith (circuitOf l) (take (length (l .states)) (o .nextImages)) (take (length (l .states)) (o .resetImages))
+    (pairsOf (take (2 * s .made) (o .gatesOut))) (take (length (l .roots)) (o .rootImages))

@@ -12,6 +12,7 @@ pub enum Refusal {
     Misshapen,
     Short,
     Over(Lit),
+    Reset(Lit),
     Again(Lit),
     StateAgain(Lit),
     Undefined(Lit),

@@ -18,11 +18,12 @@ use Rattle.ending.specs.declared.Fronts.{Fronts}
 use Rattle.ending.specs.Ending.{madeWith, Finished, Cleared, ended}
 
 -- outcomes with the same answer and the same lists are the same
-pub outcome-eq : (a : Answer) {m m′ n n′ r r′ g g′ s s′ : List ℕ} → m ≡ m′ → n ≡ n′ → r ≡ r′ → g ≡ g′ → s ≡ s′
-    → outcomeOf a m n r g s ≡ outcomeOf a m′ n′ r′ g′ s′
-outcome-eq a {m} {m′} {n} {n′} {r} {r′} {g} {g′} {s} {s′} p q e f h =
-    ap (λ (x : List ℕ). outcomeOf a x n r g s) p ∙ ap (λ (x : List ℕ). outcomeOf a m′ x r g s) q ∙ ap (λ (x : List ℕ). outcomeOf a m′ n′ x g s) e
-    ∙ ap (λ (x : List ℕ). outcomeOf a m′ n′ r′ x s) f ∙ ap (λ (x : List ℕ). outcomeOf a m′ n′ r′ g′ x) h
+pub outcome-eq : (a : Answer) {m m′ n n′ t t′ r r′ g g′ s s′ : List ℕ} → m ≡ m′ → n ≡ n′ → t ≡ t′ → r ≡ r′ → g ≡ g′ → s ≡ s′
+    → outcomeOf a m n t r g s ≡ outcomeOf a m′ n′ t′ r′ g′ s′
+outcome-eq a {m} {m′} {n} {n′} {t} {t′} {r} {r′} {g} {g′} {s} {s′} p q k e f h =
+    ap (λ (x : List ℕ). outcomeOf a x n t r g s) p ∙ ap (λ (x : List ℕ). outcomeOf a m′ x t r g s) q ∙ ap (λ (x : List ℕ). outcomeOf a m′ n′ x r g s) k
+    ∙ ap (λ (x : List ℕ). outcomeOf a m′ n′ t′ x g s) e ∙ ap (λ (x : List ℕ). outcomeOf a m′ n′ t′ r′ x s) f
+    ∙ ap (λ (x : List ℕ). outcomeOf a m′ n′ t′ r′ g′ x) h
 
 -- the answer of a success, from its parts
 pub made-with : (sources made low wide top : ℕ) (v : Var) → low ≡ made % 2 ^ 32 → wide ≡ low → top ≡ (sources % 4294967296 + wide) % 2 ^ 32 → v ≡ variable top
@@ -39,30 +40,31 @@ module _ (l : Lent) {v : ℕ} (isTop : v ≡ l .circuit .top .0) where
   scratch-words : words ≡ scratchWords (circuitOf l)
   scratch-words = omega (arith, isTop, gates-length (l .gates))
 
-  pub finished : {a : Answer} {n r s : List ℕ} {e : Walked} {made : ℕ} → e ≡ Reached made
-      → Finished words (l .nexts) (l .roots) (l .map) (l .nextImages) (l .rootImages) (l .scratch) n r s
+  pub finished : {a : Answer} {n t r s : List ℕ} {e : Walked} {made : ℕ} → e ≡ Reached made
+      → Finished words (length (l .inputs)) (l .nexts) (l .resets) (l .roots) (l .map) (l .nextImages) (l .resetImages) (l .rootImages) (l .scratch) n t r s
       → a ≡ madeWith (length (l .inputs) + length (l .states)) made
-      → outcomeOf a (l .map) n r (l .gatesOut) s ≡ ended e l
+      → outcomeOf a (l .map) n t r (l .gatesOut) s ≡ ended e l
   unfolding ended
-  finished {n = n} {r = r} {s = s} e f h =
+  finished {n = n} {t = t} {r = r} {s = s} e f h =
       rw e
-      (ap (λ (x : Answer). outcomeOf x (l .map) n r (l .gatesOut) s) h
-      ∙ outcome-eq _ refl (f .nextsOnto) (f .rootsOnto) refl (f .clear ∙ ap (λ (k : ℕ). onto (zeros k) (l .scratch)) scratch-words))
+      (ap (λ (x : Answer). outcomeOf x (l .map) n t r (l .gatesOut) s) h
+      ∙ outcome-eq _ refl (f .nextsOnto) (f .resetsOnto) (f .rootsOnto) refl (f .clear ∙ ap (λ (k : ℕ). onto (zeros k) (l .scratch)) scratch-words))
 
-  pub cleared : {m n r g s : List ℕ} {e : Walked} {why : Refusal} → e ≡ Stopped why
+  pub cleared : {m n t r g s : List ℕ} {e : Walked} {why : Refusal} → e ≡ Stopped why
       → Cleared (record {
         map = v + 1;
         «next_images» = length (l .states);
+        «reset_images» = length (l .states);
         «root_images» = length (l .roots);
         «gates_out» = 2
             * (length (l .gates) / 3);
         scratch = words;
       })
-      (l .map) (l .nextImages) (l .rootImages) (l .gatesOut) (l .scratch) m n r g s
-      → outcomeOf (Refused why) m n r g s ≡ ended e l
+      (l .map) (l .nextImages) (l .resetImages) (l .rootImages) (l .gatesOut) (l .scratch) m n t r g s
+      → outcomeOf (Refused why) m n t r g s ≡ ended e l
   unfolding ended
   cleared {why = why} e k =
       rw e
-      (outcome-eq (Refused why) (k .noImages ∙ ap (λ (j : ℕ). onto (replicate (j + 1) noImage) (l .map)) isTop) (k .noNexts) (k .noRoots)
+      (outcome-eq (Refused why) (k .noImages ∙ ap (λ (j : ℕ). onto (replicate (j + 1) noImage) (l .map)) isTop) (k .noNexts) (k .noResets) (k .noRoots)
       (k .noGates ∙ ap (λ (j : ℕ). onto (zeros (2 * j)) (l .gatesOut)) (sym (gates-length (l .gates))))
       (k .noWork ∙ ap (λ (j : ℕ). onto (zeros j) (l .scratch)) scratch-words))

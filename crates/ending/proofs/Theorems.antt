@@ -10,14 +10,16 @@ use Rattle.ending.proofs.conclude.Kinds as conclude-kinds
 use Rattle.ending.proofs.conclude.Reads as conclude-contract
 
 pub one-conclude :
-    DeterminesCells 10 conclude-kinds.ps conclude-kinds.r conclude-contract.Learnt {A = List ℕ × List ℕ × List ℕ × List ℕ × List ℕ}
+    DeterminesCells 12 conclude-kinds.ps conclude-kinds.r conclude-contract.Learnt {A = List ℕ × List ℕ × List ℕ × List ℕ × List ℕ × List ℕ}
     (λ κs e. (
-      now (e .1 .1 .1 .1 .1 .1 .1 .0),
       now (e .1 .1 .1 .1 .1 .1 .1 .1 .0),
       now (e .1 .1 .1 .1 .1 .1 .1 .1 .1 .0),
-      now
-          (e .1 .1 .1 .1 .1 .1 .1 .1 .1 .1 .0),
+      now (e .1 .1 .1 .1 .1 .1 .1 .1 .1 .1 .0),
       now (e .1 .1 .1 .1 .1 .1 .1 .1 .1 .1 .1 .0),
+      now (e .1 .1 .1 .1 .1 .1 .1 .1 .1 .1 .1 .1 .0),
+      now (e .1 .1 .1 .1 .1 .1 .1 .1 .1 .1 .1 .1 .1 .0),
     ))
-one-conclude κs a x y e f p q =
-    (ap (λ (o : Outcome). o .answer) (p ∙ sym q), ap (λ (o : Outcome). (o .map, o .nextImages, o .rootImages, o .gatesOut, o .scratch)) (p ∙ sym q))
+one-conclude κs a x y e f p q = (
+  ap (λ (o : Outcome). o .answer) (p ∙ sym q),
+  ap (λ (o : Outcome). (o .map, o .nextImages, o .resetImages, o .rootImages, o .gatesOut, o .scratch)) (p ∙ sym q),
+)

@@ -22,6 +22,7 @@ pub enum Walked {
 struct Fronts {
     map: usize,
     next_images: usize,
+    reset_images: usize,
     root_images: usize,
     gates_out: usize,
     scratch: usize,
@@ -46,20 +47,25 @@ fn renumbered(sources: usize, made: usize) -> Answer
     })
 }
 
-// The images of next states and roots, and a clear scratch.
+// The images of next states and roots, the resets of latches after so many inputs, and a clear scratch.
 fn finish(
     count: usize,
+    inputs: usize,
     nexts: &[u32],
+    resets: &[u32],
     roots: &[u32],
     map: &[u32],
     next_images: &mut [u32],
+    reset_images: &mut [u32],
     root_images: &mut [u32],
     scratch: &mut [u32],
 )
-    ensures { λ _. ⌜ Finished count (now (nexts .entry)) (now (roots .entry)) (now (map .entry)) (now («next_images» .entry))
-        (now («root_images» .entry)) (now (scratch .entry)) (now («next_images» .exit)) (now («root_images» .exit)) (now (scratch .exit)) ⌝ }
+    ensures { λ _. ⌜ Finished count inputs (now (nexts .entry)) (now (resets .entry)) (now (roots .entry)) (now (map .entry))
+        (now («next_images» .entry)) (now («reset_images» .entry)) (now («root_images» .entry)) (now (scratch .entry))
+        (now («next_images» .exit)) (now («reset_images» .exit)) (now («root_images» .exit)) (now (scratch .exit)) ⌝ }
 {
     images::images(map, nexts, next_images);
+    images::carry(resets, inputs, reset_images);
     images::images(map, roots, root_images);
     fill_front(scratch, count, 0);
 }
@@ -69,31 +75,36 @@ fn clear(
     fronts: Fronts,
     map: &mut [u32],
     next_images: &mut [u32],
+    reset_images: &mut [u32],
     root_images: &mut [u32],
     gates_out: &mut [u32],
     scratch: &mut [u32],
 )
-    ensures { λ _. ⌜ Cleared fronts (now (map .entry)) (now («next_images» .entry)) (now («root_images» .entry)) (now («gates_out» .entry))
-        (now (scratch .entry)) (now (map .exit)) (now («next_images» .exit)) (now («root_images» .exit)) (now («gates_out» .exit)) (now (scratch .exit)) ⌝ }
+    ensures { λ _. ⌜ Cleared fronts (now (map .entry)) (now («next_images» .entry)) (now («reset_images» .entry)) (now («root_images» .entry))
+        (now («gates_out» .entry)) (now (scratch .entry)) (now (map .exit)) (now («next_images» .exit)) (now («reset_images» .exit))
+        (now («root_images» .exit)) (now («gates_out» .exit)) (now (scratch .exit)) ⌝ }
 {
     fill_front(map, fronts.map, NO_IMAGE);
     fill_front(next_images, fronts.next_images, 0);
+    fill_front(reset_images, fronts.reset_images, 0);
     fill_front(root_images, fronts.root_images, 0);
     fill_front(gates_out, fronts.gates_out, 0);
     fill_front(scratch, fronts.scratch, 0);
 }
 
-// After the walks: the images, a clear scratch and the answer of a success; or the refusal, and what it leaves of each lent list.
+// After the walks: the images, the resets, a clear scratch and the answer of a success; or the refusal, and what it leaves of each lent list.
 pub fn conclude(
     end: Walked,
     circuit: CircuitRecord,
     inputs: &[u32],
     states: &[u32],
     nexts: &[u32],
+    resets: &[u32],
     gates: &[u32],
     roots: &[u32],
     map: &mut [u32],
     next_images: &mut [u32],
+    reset_images: &mut [u32],
     root_images: &mut [u32],
     gates_out: &mut [u32],
     scratch: &mut [u32],
@@ -102,6 +113,7 @@ pub fn conclude(
       answer = r;
       map = now (map .exit);
       nextImages = now («next_images» .exit);
+      resetImages = now («reset_images» .exit);
       rootImages = now («root_images» .exit);
       gatesOut = now («gates_out» .exit);
       scratch = now (scratch .exit);
@@ -110,10 +122,12 @@ pub fn conclude(
       inputs = now (inputs .entry);
       states = now (states .entry);
       nexts = now (nexts .entry);
+      resets = now (resets .entry);
       gates = now (gates .entry);
       roots = now (roots .entry);
       map = now (map .entry);
       nextImages = now («next_images» .entry);
+      resetImages = now («reset_images» .entry);
       rootImages = now («root_images» .entry);
       gatesOut = now («gates_out» .entry);
       scratch = now (scratch .entry);
@@ -125,18 +139,38 @@ pub fn conclude(
     let words = 3 * n + 3 * g;
     match end {
         Walked::Reached(made) => {
-            finish(words, nexts, roots, map, next_images, root_images, scratch);
+            finish(
+                words,
+                inputs.len(),
+                nexts,
+                resets,
+                roots,
+                map,
+                next_images,
+                reset_images,
+                root_images,
+                scratch,
+            );
             renumbered(inputs.len() + states.len(), made)
         }
         Walked::Stopped(why) => {
             let fronts = Fronts {
                 map: n,
                 next_images: states.len(),
+                reset_images: states.len(),
                 root_images: roots.len(),
                 gates_out: 2 * g,
                 scratch: words,
             };
-            clear(fronts, map, next_images, root_images, gates_out, scratch);
+            clear(
+                fronts,
+                map,
+                next_images,
+                reset_images,
+                root_images,
+                gates_out,
+                scratch,
+            );
             Answer::Refused(why)
         }
     }

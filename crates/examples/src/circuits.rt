@@ -8,7 +8,7 @@ use circuit::Image;
 use lit::Lit;
 use lit::Var;
 
-// This function and the two after it read the line's lists.
+// This function and the three after it read the line's lists.
 pub fn answer(line: &[u8]) {
     let mut inputs = [0u32; 4];
     let n = lists::list(line, b'I', &mut inputs);
@@ -20,10 +20,17 @@ fn with_latches(line: &[u8], inputs: &[u32]) {
     let mut nexts = [0u32; 4];
     let s = lists::list(line, b'L', &mut states);
     let n = lists::list(line, b'N', &mut nexts);
-    with_gates(line, inputs, &states[..s], &nexts[..n]);
+    with_resets(line, inputs, &states[..s], &nexts[..n]);
 }
 
-fn with_gates(line: &[u8], inputs: &[u32], states: &[u32], nexts: &[u32]) {
+// Resets stand behind a P; where the line has none, each latch has 0.
+fn with_resets(line: &[u8], inputs: &[u32], states: &[u32], nexts: &[u32]) {
+    let mut resets = [0u32; 4];
+    let p = lists::list_or(line, b'P', &mut resets, states.len());
+    with_gates(line, inputs, states, nexts, &resets[..p]);
+}
+
+fn with_gates(line: &[u8], inputs: &[u32], states: &[u32], nexts: &[u32], resets: &[u32]) {
     let mut gates = [0u32; 12];
     let mut roots = [0u32; 8];
     let g = lists::list(line, b'G', &mut gates);
@@ -34,6 +41,7 @@ fn with_gates(line: &[u8], inputs: &[u32], states: &[u32], nexts: &[u32]) {
         inputs,
         states,
         nexts,
+        resets,
         &gates[..g],
         &roots[..r],
     );
@@ -66,11 +74,13 @@ fn shown(
     inputs: &[u32],
     states: &[u32],
     nexts: &[u32],
+    resets: &[u32],
     gates: &[u32],
     roots: &[u32],
 ) {
     let mut map = [77u32; 12];
     let mut next_images = [77u32; 4];
+    let mut reset_images = [77u32; 4];
     let mut root_images = [77u32; 8];
     let mut gates_out = [77u32; 12];
     let mut scratch = [77u32; 64];
@@ -79,24 +89,41 @@ fn shown(
         inputs,
         states,
         nexts,
+        resets,
         gates,
         roots,
         &mut map,
         &mut next_images,
+        &mut reset_images,
         &mut root_images,
         &mut gates_out,
         &mut scratch,
     );
-    printed(answer, &map, &gates_out, &next_images, &root_images);
+    printed(
+        answer,
+        &map,
+        &gates_out,
+        &next_images,
+        &reset_images,
+        &root_images,
+    );
     asked(b"; images", line, &map);
     say::line_end();
 }
 
-fn printed(answer: Answer, map: &[u32], gates: &[u32], nexts: &[u32], roots: &[u32]) {
+fn printed(
+    answer: Answer,
+    map: &[u32],
+    gates: &[u32],
+    nexts: &[u32],
+    resets: &[u32],
+    roots: &[u32],
+) {
     outcome(answer);
     words(b"; map", map);
     words(b"; gates", gates);
     words(b"; nexts", nexts);
+    words(b"; resets", resets);
     words(b"; roots", roots);
 }
 

@@ -23,6 +23,7 @@ fn in_lists(kind: u8, file: &[u8]) {
         b'J' => just(file),
         b'L' => longer(file),
         b'N' => short_nexts(file),
+        b'P' => short_resets(file),
         b'G' => short_gates(file),
         b'S' => short_sizes(file),
         b'R' => short_roots(file),
@@ -34,66 +35,140 @@ fn in_lists(kind: u8, file: &[u8]) {
 // Lists of eight words, whose fronts are printed if the file is taken.
 fn eight(file: &[u8]) {
     let mut nexts = [77u32; 8];
+    let mut resets = [77u32; 8];
     let mut gates = [77u32; 8];
     let mut sizes = [77u32; 8];
     let mut roots = [77u32; 8];
-    if read(file, &mut nexts, &mut gates, &mut sizes, &mut roots) == 0 {
-        fronts(&nexts, &gates, &sizes, &roots);
+    let number = read(
+        file,
+        &mut nexts,
+        &mut resets,
+        &mut gates,
+        &mut sizes,
+        &mut roots,
+    );
+    if number == 0 {
+        fronts(&nexts, &resets, &gates, &sizes, &roots);
     }
 }
 
-// This function and the six after it print every word of each list. Here the lists have just the words that are needed for two latches, two gates, two
+// This function and the seven after it print every word of each list. Here the lists have just the words that are needed for two latches, two gates, two
 // justice sets and seven roots.
 fn just(file: &[u8]) {
     let mut nexts = [77u32; 2];
+    let mut resets = [77u32; 2];
     let mut gates = [77u32; 4];
     let mut sizes = [77u32; 2];
     let mut roots = [77u32; 7];
-    whole(file, &mut nexts, &mut gates, &mut sizes, &mut roots);
+    whole(
+        file,
+        &mut nexts,
+        &mut resets,
+        &mut gates,
+        &mut sizes,
+        &mut roots,
+    );
 }
 
 fn longer(file: &[u8]) {
     let mut nexts = [77u32; 4];
+    let mut resets = [77u32; 4];
     let mut gates = [77u32; 6];
     let mut sizes = [77u32; 3];
     let mut roots = [77u32; 8];
-    whole(file, &mut nexts, &mut gates, &mut sizes, &mut roots);
+    whole(
+        file,
+        &mut nexts,
+        &mut resets,
+        &mut gates,
+        &mut sizes,
+        &mut roots,
+    );
 }
 
 fn short_nexts(file: &[u8]) {
     let mut nexts = [77u32; 1];
+    let mut resets = [77u32; 2];
     let mut gates = [77u32; 4];
     let mut sizes = [77u32; 2];
     let mut roots = [77u32; 7];
-    whole(file, &mut nexts, &mut gates, &mut sizes, &mut roots);
+    whole(
+        file,
+        &mut nexts,
+        &mut resets,
+        &mut gates,
+        &mut sizes,
+        &mut roots,
+    );
+}
+
+fn short_resets(file: &[u8]) {
+    let mut nexts = [77u32; 2];
+    let mut resets = [77u32; 1];
+    let mut gates = [77u32; 4];
+    let mut sizes = [77u32; 2];
+    let mut roots = [77u32; 7];
+    whole(
+        file,
+        &mut nexts,
+        &mut resets,
+        &mut gates,
+        &mut sizes,
+        &mut roots,
+    );
 }
 
 fn short_gates(file: &[u8]) {
     let mut nexts = [77u32; 2];
+    let mut resets = [77u32; 2];
     let mut gates = [77u32; 3];
     let mut sizes = [77u32; 2];
     let mut roots = [77u32; 7];
-    whole(file, &mut nexts, &mut gates, &mut sizes, &mut roots);
+    whole(
+        file,
+        &mut nexts,
+        &mut resets,
+        &mut gates,
+        &mut sizes,
+        &mut roots,
+    );
 }
 
 fn short_sizes(file: &[u8]) {
     let mut nexts = [77u32; 2];
+    let mut resets = [77u32; 2];
     let mut gates = [77u32; 4];
     let mut sizes = [77u32; 1];
     let mut roots = [77u32; 7];
-    whole(file, &mut nexts, &mut gates, &mut sizes, &mut roots);
+    whole(
+        file,
+        &mut nexts,
+        &mut resets,
+        &mut gates,
+        &mut sizes,
+        &mut roots,
+    );
 }
 
 fn short_roots(file: &[u8]) {
     let mut nexts = [77u32; 2];
+    let mut resets = [77u32; 2];
     let mut gates = [77u32; 4];
     let mut sizes = [77u32; 2];
     let mut roots = [77u32; 6];
-    whole(file, &mut nexts, &mut gates, &mut sizes, &mut roots);
+    whole(
+        file,
+        &mut nexts,
+        &mut resets,
+        &mut gates,
+        &mut sizes,
+        &mut roots,
+    );
 }
 
 fn short_answer(file: &[u8]) {
     let mut nexts = [77u32; 2];
+    let mut resets = [77u32; 2];
     let mut gates = [77u32; 4];
     let mut sizes = [77u32; 2];
     let mut roots = [77u32; 7];
@@ -101,31 +176,40 @@ fn short_answer(file: &[u8]) {
     let number = file_words::read(
         file,
         &mut nexts,
+        &mut resets,
         &mut gates,
         &mut sizes,
         &mut roots,
         &mut words,
     );
     said(number, &words);
-    wholes(&nexts, &gates, &sizes, &roots);
+    wholes(&nexts, &resets, &gates, &sizes, &roots);
 }
 
 // Reads the file, and prints the answer and every word of each list.
-fn whole(file: &[u8], nexts: &mut [u32], gates: &mut [u32], sizes: &mut [u32], roots: &mut [u32]) {
-    read(file, nexts, gates, sizes, roots);
-    wholes(nexts, gates, sizes, roots);
+fn whole(
+    file: &[u8],
+    nexts: &mut [u32],
+    resets: &mut [u32],
+    gates: &mut [u32],
+    sizes: &mut [u32],
+    roots: &mut [u32],
+) {
+    read(file, nexts, resets, gates, sizes, roots);
+    wholes(nexts, resets, gates, sizes, roots);
 }
 
 // Reads the file, prints the answer, and answers its number.
 fn read(
     file: &[u8],
     nexts: &mut [u32],
+    resets: &mut [u32],
     gates: &mut [u32],
     sizes: &mut [u32],
     roots: &mut [u32],
 ) -> u32 {
     let mut words = [77u64; 12];
-    let number = file_words::read(file, nexts, gates, sizes, roots, &mut words);
+    let number = file_words::read(file, nexts, resets, gates, sizes, roots, &mut words);
     said(number, &words);
     number
 }
@@ -163,16 +247,18 @@ pub fn part(s: &[u8], words: &[u64], at: usize) {
 }
 
 // Every word of each list.
-fn wholes(nexts: &[u32], gates: &[u32], sizes: &[u32], roots: &[u32]) {
+fn wholes(nexts: &[u32], resets: &[u32], gates: &[u32], sizes: &[u32], roots: &[u32]) {
     records::cells(b"; nexts", nexts);
+    records::cells(b"; resets", resets);
     records::cells(b"; gates", gates);
     records::cells(b"; sizes", sizes);
     records::cells(b"; roots", roots);
 }
 
 // The words of each list up to the first 77.
-fn fronts(nexts: &[u32], gates: &[u32], sizes: &[u32], roots: &[u32]) {
+fn fronts(nexts: &[u32], resets: &[u32], gates: &[u32], sizes: &[u32], roots: &[u32]) {
     circuits::words(b"; nexts", nexts);
+    circuits::words(b"; resets", resets);
     circuits::words(b"; gates", gates);
     circuits::words(b"; sizes", sizes);
     circuits::words(b"; roots", roots);

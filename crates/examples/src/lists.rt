@@ -30,6 +30,20 @@ pub fn list(s: &[u8], letter: u8, words: &mut [u32]) -> usize
     n
 }
 
+// The same where the line has the letter; else the words as they are, as many as asked for.
+pub fn list_or(s: &[u8], letter: u8, words: &mut [u32], others: usize) -> usize
+    ensures { λ r. ⌜ Counts r (now (words .exit)) ⌝ }
+{
+    if named(s, letter) {
+        return list(s, letter, words);
+    }
+    if others < words.len() {
+        others
+    } else {
+        words.len()
+    }
+}
+
 // The first number of the letter's list; 0 where it has none.
 pub fn one(s: &[u8], letter: u8) -> u32 {
     let mut first = [0u32; 1];

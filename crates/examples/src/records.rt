@@ -1,5 +1,5 @@
 // Gate records: two inputs, two gates and a root each, renumbered with hashing, and the answer and the lists that were lent. Each is a word longer than
-// asked, but for a sixth list that is too short, and holds 77 where nothing is written.
+// asked, but for a last list that is too short, and holds 77 where nothing is written.
 use crate::circuits;
 use crate::say;
 use aig_records::GateRecord;
@@ -69,6 +69,7 @@ fn renumbered(name: &[u8], inputs: &[u32], second: GateRecord, flat: &mut [u32])
     let roots: [u32; 2] = [6, 8];
     let mut map = [77u32; 6];
     let mut next_images = [77u32; 1];
+    let mut reset_images = [77u32; 1];
     let mut root_images = [77u32; 3];
     let mut gates_out = [77u32; 5];
     let mut scratch = [77u32; 22];
@@ -77,10 +78,12 @@ fn renumbered(name: &[u8], inputs: &[u32], second: GateRecord, flat: &mut [u32])
         inputs,
         &latches,
         &latches,
+        &latches,
         gates,
         &roots,
         &mut map,
         &mut next_images,
+        &mut reset_images,
         &mut root_images,
         &mut gates_out,
         &mut scratch,
@@ -91,6 +94,7 @@ fn renumbered(name: &[u8], inputs: &[u32], second: GateRecord, flat: &mut [u32])
     say::line_end();
     words(b"  map", &map);
     words(b"  next images", &next_images);
+    words(b"  reset images", &reset_images);
     words(b"  root images", &root_images);
     words(b"  gates", &gates_out);
     words(b"  scratch", &scratch);

@@ -9,7 +9,7 @@ use crate::lists;
 use crate::say;
 use bytes::scan::find;
 
-// This function and the one after it read the line's lists.
+// This function and the two after it read the line's lists.
 pub fn answer(line: &[u8]) {
     say::text(line);
     say::text(b": ");
@@ -17,11 +17,18 @@ pub fn answer(line: &[u8]) {
     let mut gates = [0u32; 8];
     let n = lists::list(line, b'N', &mut nexts);
     let g = lists::list(line, b'G', &mut gates);
-    with_roots(line, &nexts[..n], &gates[..g]);
+    with_resets(line, &nexts[..n], &gates[..g]);
     say::line_end();
 }
 
-fn with_roots(line: &[u8], nexts: &[u32], gates: &[u32]) {
+// Resets stand behind a P; where the line has none, each latch has 0.
+fn with_resets(line: &[u8], nexts: &[u32], gates: &[u32]) {
+    let mut resets = [0u32; 4];
+    let p = lists::list_or(line, b'P', &mut resets, nexts.len());
+    with_roots(line, nexts, &resets[..p], gates);
+}
+
+fn with_roots(line: &[u8], nexts: &[u32], resets: &[u32], gates: &[u32]) {
     let mut sizes = [0u32; 4];
     let mut roots = [0u32; 8];
     let s = lists::list(line, b'S', &mut sizes);
@@ -36,6 +43,7 @@ fn with_roots(line: &[u8], nexts: &[u32], gates: &[u32]) {
         lists::one(line, b'I'),
         &counts[..k],
         nexts,
+        resets,
         gates,
         &sizes[..s],
         &roots[..r],
@@ -54,6 +62,7 @@ fn shown(
     inputs: u32,
     counts: &[u32],
     nexts: &[u32],
+    resets: &[u32],
     gates: &[u32],
     sizes: &[u32],
     roots: &[u32],
@@ -66,6 +75,7 @@ fn shown(
         inputs,
         counts,
         nexts,
+        resets,
         gates,
         sizes,
         roots,
@@ -79,13 +89,24 @@ fn written(
     inputs: u32,
     counts: &[u32],
     nexts: &[u32],
+    resets: &[u32],
     gates: &[u32],
     sizes: &[u32],
     roots: &[u32],
     out: &mut [u8],
     words: &mut [u64],
 ) {
-    let number = file_words::write(inputs, counts, nexts, gates, sizes, roots, out, words);
+    let number = file_words::write(
+        inputs,
+        counts,
+        nexts,
+        resets,
+        gates,
+        sizes,
+        roots,
+        out,
+        words,
+    );
     said(number, words);
     say::text(b"; bytes \"");
     escapes::show(out);
@@ -117,6 +138,7 @@ pub fn again(line: &[u8]) {
 
 fn read(file: &[u8]) {
     let mut nexts = [77u32; 4];
+    let mut resets = [77u32; 4];
     let mut gates = [77u32; 8];
     let mut sizes = [77u32; 4];
     let mut roots = [77u32; 8];
@@ -124,6 +146,7 @@ fn read(file: &[u8]) {
     let number = file_words::read(
         file,
         &mut nexts,
+        &mut resets,
         &mut gates,
         &mut sizes,
         &mut roots,
@@ -132,7 +155,7 @@ fn read(file: &[u8]) {
     if number == 0 {
         files::part(b": takes ", &words, 0);
         say::text(b" bytes; ");
-        rewritten(file.len(), &words, &nexts, &gates, &sizes, &roots);
+        rewritten(file.len(), &words, &nexts, &resets, &gates, &sizes, &roots);
         return;
     }
     say::counted(b": refused ", number as u64);
@@ -143,6 +166,7 @@ fn rewritten(
     room: usize,
     words: &[u64],
     nexts: &[u32],
+    resets: &[u32],
     gates: &[u32],
     sizes: &[u32],
     roots: &[u32],
@@ -155,6 +179,7 @@ fn rewritten(
     let counts = [outputs, bad, constraints, fairness, justice];
     let all = outputs + bad + constraints + fairness + justice;
     let l = front(count(words, 3) as usize, nexts);
+    let p = front(count(words, 3) as usize, resets);
     let g = front((count(words, 4) * 2) as usize, gates);
     let s = front(count(words, 10) as usize, sizes);
     let r = front(all as usize, roots);
@@ -164,6 +189,7 @@ fn rewritten(
         count(words, 2),
         &counts,
         &nexts[..l],
+        &resets[..p],
         &gates[..g],
         &sizes[..s],
         &roots[..r],

@@ -17,12 +17,14 @@ use Rattle.token.specs.declared.Token.the-variants.{Value, Refused}
 use Rattle.token.specs.declared.PairToken.{PairToken}
 use Rattle.token.specs.declared.PairToken.the-variants.{Inputs, PairRefused}
 use Rattle.circuit.specs.Walk.{firstCode}
+use Rattle.circuit.specs.Circuit.{isReset}
+use Rattle.circuit.specs.Ordered.{firstLatch}
 use Rattle.circuit.specs.Outcome.{limit, total}
 use Rattle.lines.specs.declared.Fault.{Fault}
-use Rattle.lines.specs.declared.Fault.the-variants.{Number, Missing, Above, TooMany, Short}
+use Rattle.lines.specs.declared.Fault.the-variants.{Number, Missing, Above, TooMany, Short, Reset}
 use Rattle.lines.specs.declared.Header.{Header}
 use Rattle.lines.specs.Reading.{Read, got, no, _▸_, rowAt}
-use Rattle.lines.specs.Lines.{isByte, byteAt, spaceAt, newlineAt, begins, tagAt, numberOf, numberAt, lineAt, linesAt, resetAt, latchAt, latchesAt}
+use Rattle.lines.specs.Lines.{isByte, byteAt, spaceAt, newlineAt, begins, tagAt, numberOf, numberAt, lineAt, linesAt, latchLine, resetLineAt, resetAt, latchAt, latchesAt}
 use Rattle.lines.specs.Sections.{countAt, optionsAt, headerOf, othersAt, countsAt, headerAt, topCode, firstRoots, rootCount, rootRoomAt, propertiesAt, sizesAt, rootsOf, rootsAt}
 use Rattle.token.specs.Claims.{NamesPlace, RefusedDelta, first, second, firstZero}
 use Rattle.token.proofs.Refusals.{header-field-place}
@@ -49,6 +51,7 @@ pub record Has (P : Fault → Type 0) : Type 0 where
   pub above : P Above
   pub too-many : P TooMany
   pub short : P Short
+  pub reset : P Reset
 
 module _ (s : List ℕ) (room : Room) (P : Fault → Type 0) (has : Has P) where
   -- steps
@@ -168,22 +171,29 @@ module _ (s : List ℕ) (room : Room) (P : Fault → Type 0) (has : Has P) where
   unfolding linesAt
   lines most n at i = row (λ k. lineAt s most) (λ k at₁ i₁. line most at₁ i₁) 0 n at i
 
-  reset : (most at : ℕ) → at ≤ length s → Ends (resetAt s most at)
+  reset-line : (most own at : ℕ) → at ≤ length s → Ends (resetLineAt s most own at)
+  unfolding resetLineAt
+  reset-line most own at i =
+      then (numberAt s most at) (λ reset at₁. cond (isReset own reset) (newlineAt s at₁ ▸ λ _ at₂. got reset at₂) (no Reset at)) (number most at i)
+      (λ reset at₁ _ i₁. if (isReset own reset) (newlineAt s at₁ ▸ λ _ at₂. got reset at₂) (no Reset at)
+      (λ _. then (newlineAt s at₁) (λ _ at₂. got reset at₂) (byte 10 at₁ i₁) (λ _ at₂ _ i₂. i₂)) (λ _. (has .reset, i)))
+
+  reset : (most own at : ℕ) → at ≤ length s → Ends (resetAt s most own at)
   unfolding resetAt
-  reset most at i =
-      if (isByte s 32 at) (spaceAt s at ▸ λ _ at₁. lineAt s most at₁) (newlineAt s at ▸ λ _ at₁. got 0 at₁)
-      (λ _. then (spaceAt s at) (λ _ at₁. lineAt s most at₁) (byte 32 at i) (λ _ at₁ _ i₁. line most at₁ i₁))
+  reset most own at i =
+      if (isByte s 32 at) (spaceAt s at ▸ λ _ at₁. resetLineAt s most own at₁) (newlineAt s at ▸ λ _ at₁. got 0 at₁)
+      (λ _. then (spaceAt s at) (λ _ at₁. resetLineAt s most own at₁) (byte 32 at i) (λ _ at₁ _ i₁. reset-line most own at₁ i₁))
       (λ _. then (newlineAt s at) (λ _ at₁. got 0 at₁) (byte 10 at i) (λ _ at₁ _ i₁. i₁))
 
-  latch : (most at : ℕ) → at ≤ length s → Ends (latchAt s most at)
+  latch : (most own at : ℕ) → at ≤ length s → Ends (latchAt s most own at)
   unfolding latchAt
-  latch most at i =
-      then (numberAt s most at) (λ next at₁. resetAt s most at₁ ▸ λ reset at₂. got next at₂) (number most at i)
-      (λ next at₁ _ i₁. then (resetAt s most at₁) (λ reset at₂. got next at₂) (reset most at₁ i₁) (λ _ at₂ _ i₂. i₂))
+  latch most own at i =
+      then (numberAt s most at) (λ next at₁. resetAt s most own at₁ ▸ λ reset at₂. got (latchLine next reset) at₂) (number most at i)
+      (λ next at₁ _ i₁. then (resetAt s most own at₁) (λ reset at₂. got (latchLine next reset) at₂) (reset most own at₁ i₁) (λ _ at₂ _ i₂. i₂))
 
-  latches : (most n at : ℕ) → at ≤ length s → Ends (latchesAt s most n at)
+  latches : (most own n at : ℕ) → at ≤ length s → Ends (latchesAt s most own n at)
   unfolding latchesAt
-  latches most n at i = row (λ k. latchAt s most) (λ k at₁ i₁. latch most at₁ i₁) 0 n at i
+  latches most own n at i = row (λ k. latchAt s most (own + 2 * k)) (λ k at₁ i₁. latch most (own + 2 * k) at₁ i₁) 0 n at i
 
   -- the header
 
@@ -287,20 +297,20 @@ module _ (s : List ℕ) (room : Room) (P : Fault → Type 0) (has : Has P) where
   sized : (h : Header) (at : ℕ) → at ≤ length s → Ends (sizedAt h room at)
   unfolding sizedAt
   sized h at i =
-      let short = ltb (room .nexts) (h .latches) || ltb (room .gates) (2 * h .gates) || ltb (room .sizes) (h .justice) in
+      let short = ltb (room .nexts) (h .latches) || ltb (room .resets) (h .latches) || ltb (room .gates) (2 * h .gates) || ltb (room .sizes) (h .justice) in
       if (ltb (h .inputs + h .latches + h .gates) (h .top)) (no Above at) (cond short (no Short at) (got tt at)) (λ _. (has .above, i))
       (λ _. if short (no Short at) (got tt at) (λ _. (has .short, i)) (λ _. i))
 
   lists : (h : Header) (at : ℕ) → at ≤ length s → Ends (listsAt s (room .roots) h at)
   unfolding listsAt
   lists h at i =
-      then (latchesAt s (topCode h) (h .latches) at)
-      (λ nexts at₁. rootsAt s h (topCode h) (room .roots) at₁ ▸ λ roots at₂.
-      gatesAt s (h .inputs + h .latches) (h .gates) at₂ ▸ λ gates at₃. got (fileWith h nexts roots gates) at₃)
-      (latches (topCode h) (h .latches) at i)
-      (λ nexts at₁ _ i₁. then (rootsAt s h (topCode h) (room .roots) at₁)
-      (λ roots at₂. gatesAt s (h .inputs + h .latches) (h .gates) at₂ ▸ λ gates at₃. got (fileWith h nexts roots gates) at₃) (roots h (topCode h) at₁ i₁)
-      (λ rs at₂ _ i₂. then (gatesAt s (h .inputs + h .latches) (h .gates) at₂) (λ gates at₃. got (fileWith h nexts rs gates) at₃)
+      then (latchesAt s (topCode h) (firstLatch (h .inputs)) (h .latches) at)
+      (λ ls at₁. rootsAt s h (topCode h) (room .roots) at₁ ▸ λ roots at₂.
+      gatesAt s (h .inputs + h .latches) (h .gates) at₂ ▸ λ gates at₃. got (fileWith h ls roots gates) at₃)
+      (latches (topCode h) (firstLatch (h .inputs)) (h .latches) at i)
+      (λ ls at₁ _ i₁. then (rootsAt s h (topCode h) (room .roots) at₁)
+      (λ roots at₂. gatesAt s (h .inputs + h .latches) (h .gates) at₂ ▸ λ gates at₃. got (fileWith h ls roots gates) at₃) (roots h (topCode h) at₁ i₁)
+      (λ rs at₂ _ i₂. then (gatesAt s (h .inputs + h .latches) (h .gates) at₂) (λ gates at₃. got (fileWith h ls rs gates) at₃)
       (gates (h .inputs + h .latches) (h .gates) at₂ i₂) (λ _ at₃ _ i₃. i₃)))
 
   pub only-read : Only s P (readFile s room)

@@ -17,7 +17,7 @@ use Rattle.token.specs.Answer.{reasonNumber}
 use Rattle.token.specs.declared.Reason.{Reason}
 use Rattle.token.specs.declared.Reason.the-variants.{NoDigit, LeadingZero, OverWidth, OverLimit, AssignsZero, AssignsOdd, Cut, TooLong, OverReference, ZeroDelta}
 use Rattle.lines.specs.declared.Fault.{Fault}
-use Rattle.lines.specs.declared.Fault.the-variants.{Number, Missing, Above, TooMany, Short}
+use Rattle.lines.specs.declared.Fault.the-variants.{Number, Missing, Above, TooMany, Short, Reset}
 use Rattle.lines.specs.Reading.{Read, got, no}
 use Rattle.binary.specs.File.{File, Room, readFile}
 use Rattle.binary.specs.Known.{Ample}
@@ -42,17 +42,24 @@ use Rattle.file_words.proofs.read.Reads as read-promise
 use Rattle.file_words.proofs.write.Kinds as write-kinds
 use Rattle.file_words.proofs.write.Reads as write-promise
 
--- any two outcomes that the contract of `read` allows for the same arguments are equal: the number, each of the four lists, and the answer words
+-- any two outcomes that the contract of `read` allows for the same arguments are equal: the number, each of the five lists, and the answer words
 pub one-read :
-    DeterminesCells 6 read-kinds.ps read-kinds.r read-promise.Learnt {A = List ℕ × List ℕ × List ℕ × List ℕ × List ℕ}
-    (λ κs e. (now (e .1 .0), now (e .1 .1 .0), now (e .1 .1 .1 .0), now (e .1 .1 .1 .1 .0), now (e .1 .1 .1 .1 .1 .0)))
+    DeterminesCells 7 read-kinds.ps read-kinds.r read-promise.Learnt {A = List ℕ × List ℕ × List ℕ × List ℕ × List ℕ × List ℕ}
+    (λ κs e. (
+      now (e .1 .0),
+      now (e .1 .1 .0),
+      now (e .1 .1 .1 .0),
+      now (e .1 .1 .1 .1 .0),
+      now (e .1 .1 .1 .1 .1 .0),
+      now (e .1 .1 .1 .1 .1 .1 .0),
+    ))
 one-read κs a x y e f p q =
-    (ap (λ (s : Seen). s .number) (p ∙ sym q), ap (λ (s : Seen). (s .nexts, s .gates, s .sizes, s .roots, s .words)) (p ∙ sym q))
+    (ap (λ (s : Seen). s .number) (p ∙ sym q), ap (λ (s : Seen). (s .nexts, s .resets, s .gates, s .sizes, s .roots, s .words)) (p ∙ sym q))
 
 -- of `write` the number, each lent byte, and the answer words
 pub one-write :
-    DeterminesCells 7 write-kinds.ps write-kinds.r write-promise.Learnt {A = List ℕ × List ℕ}
-    (λ κs e. (now (e .1 .1 .1 .1 .1 .1 .0), now (e .1 .1 .1 .1 .1 .1 .1 .0)))
+    DeterminesCells 8 write-kinds.ps write-kinds.r write-promise.Learnt {A = List ℕ × List ℕ}
+    (λ κs e. (now (e .1 .1 .1 .1 .1 .1 .1 .0), now (e .1 .1 .1 .1 .1 .1 .1 .1 .0)))
 one-write κs a x y e f p q =
     (ap (λ (s : write.Seen). s .number) (p ∙ sym q), ap (λ (s : write.Seen). (s .bytes, s .words)) (p ∙ sym q))
 
@@ -63,7 +70,7 @@ among n (m ∷ ms) = eqb n m || among n ms
 
 -- a file is refused by one of these numbers, whatever the lists
 abbrev pub Given : Fault → Type 0
-Given why = among (faultNumber why) (1 ∷ 3 ∷ 10 ∷ 11 ∷ 12 ∷ 15 ∷ 16 ∷ 17 ∷ 18 ∷ 19 ∷ 20 ∷ 21 ∷ []) ≡ true
+Given why = among (faultNumber why) (1 ∷ 3 ∷ 10 ∷ 11 ∷ 12 ∷ 15 ∷ 16 ∷ 17 ∷ 18 ∷ 19 ∷ 20 ∷ 21 ∷ 22 ∷ []) ≡ true
 
 has-given : Has Given
 has-given =
@@ -80,6 +87,7 @@ has-given =
       above = refl;
       too-many = refl;
       short = refl;
+      reset = refl;
     }
 
 -- and its place is not past the end of the bytes
@@ -98,7 +106,7 @@ bytes-used bytes room f n e = taken (readFile bytes room) (only-read bytes room 
     taken (got g at) h e = let here : at ≡ n = cc in omega (arith, h, here)
     taken (no w at) h e = absurd (let z : _≡_ {A = ℕ} 0 1 = cc in omega arith)
 
--- with room for the answer and lists of the limits, 1,048,575 words for next states, sizes and roots, 2,097,150 for gates, no file is answered 3
+-- with room for the answer and lists of the limits, 1,048,575 words for next states, resets, sizes and roots, 2,097,150 for gates, no file is answered 3
 pub never-three : (bytes : List ℕ) (l : Lists) (words : List ℕ) → 11 ≤ length words → Ample (roomOf l) → readSeen bytes l words .number ≢ 3
 unfolding readSeen
 never-three bytes l words room ample = rw (le-ltb (length words) 11 room) (go (readFile bytes (roomOf l)) refl)
@@ -120,14 +128,16 @@ never-three bytes l words room ample = rw (le-ltb (length words) 11 room) (go (r
     refused Missing place e g = omega arith
     refused Above place e g = omega arith
     refused TooMany place e g = omega arith
+    refused Reset place e g = omega arith
     refused Short place e g = absurd (never-short bytes (roomOf l) ample place e)
 
     go : (R : Read File) → readFile bytes (roomOf l) ≡ R → fileNumber (left R l .read .answer) ≢ 3
     go (got f at) e = omega arith
     go (no why place) e = refused why place e (refusals-given bytes (roomOf l) why place e .0)
 
--- what is written of an ordered circuit of V variables, R roots and J justice sets has at most 76 + 8 (V + R + J) bytes
-pub file-most : (w : Words) → ordered.Given w → length (fileOf (fileIn w)) ≤ 76 + 8 * (variablesOf (circuitIn w) + length (w .roots) + length (w .sizes))
+-- what is written of an ordered circuit of V variables, L latches, R roots and J justice sets has at most 76 + 8 (V + L + R + J) bytes
+pub file-most : (w : Words) → ordered.Given w
+    → length (fileOf (fileIn w)) ≤ 76 + 8 * (variablesOf (circuitIn w) + length (w .nexts) + length (w .roots) + length (w .sizes))
 file-most = most.file-most
 
 -- where as many bytes are lent as the file has, and two answer words, 3 is not answered
@@ -141,6 +151,7 @@ not-short w out words room fits = rw (le-ltb (length words) 2 room) (five (eqb (
     go (Faulty lent.TooBig) e = omega arith
     go (Faulty lent.Misshapen) e = omega arith
     go (Faulty (lent.Over l)) e = omega arith
+    go (Faulty (lent.Reset l)) e = omega arith
     go (Faulty (lent.Disordered l)) e = omega arith
     go (Faulty lent.Short) e = absurd (exactly w 0 (Faulty lent.Short) .0 e)
 
@@ -148,11 +159,11 @@ not-short w out words room fits = rw (le-ltb (length words) 2 room) (five (eqb (
     five true = go (checked w 0) refl
     five false = omega arith
 
--- so with 76 + 8 (V + R + J) bytes it is not, and with 25,165,876 bytes it never is
+-- so with 76 + 8 (V + L + R + J) bytes it is not, and with 33,554,476 bytes it never is
 pub enough-bytes : (w : Words) (out words : List ℕ) → 2 ≤ length words
-    → 76 + 8 * (variablesOf (circuitIn w) + length (w .roots) + length (w .sizes)) ≤ length out → writeSeen w out words .number ≢ 3
+    → 76 + 8 * (variablesOf (circuitIn w) + length (w .nexts) + length (w .roots) + length (w .sizes)) ≤ length out → writeSeen w out words .number ≢ 3
 enough-bytes w out words room h = not-short w out words room (λ g. omega (arith, file-most w g, h))
 
-pub never-three-written : (w : Words) (out words : List ℕ) → 2 ≤ length words → 25165876 ≤ length out → writeSeen w out words .number ≢ 3
+pub never-three-written : (w : Words) (out words : List ℕ) → 2 ≤ length words → 33554476 ≤ length out → writeSeen w out words .number ≢ 3
 never-three-written w out words room h =
     not-short w out words room (λ g. omega (arith, file-most w g, h, g .ordered .variables, g .ordered .few, g .sets))

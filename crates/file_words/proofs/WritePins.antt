@@ -3,21 +3,25 @@
 use Prim.Native.Nat.{ℕ}
 use mathlib.Core.Path.{_≡_, refl}
 use mathlib.Core.List.{List, [], _∷_, _++_}
-use lib.ListN.{replicate}
+use lib.ListN.{length, replicate}
 use Rattle.token.specs.Format.{digitsOf, shortest}
 use Rattle.lit.specs.Code.{literal}
 use Rattle.circuit.specs.Walk.{firstCode}
-use Rattle.sections.specs.Bytes.{lineBytes, countBytes, afterTag, rootsBytes}
-use Rattle.ordered.specs.declared.given.Fault.the-variants.{TooBig, Misshapen, Over, Disordered, Short}
+use Rattle.sections.specs.Bytes.{lineBytes, countBytes, resetBytes, latchBytes, afterTag, rootsBytes}
+use Rattle.ordered.specs.declared.given.Fault.the-variants.{TooBig, Misshapen, Over, Reset, Disordered, Short}
 use Rattle.ordered.specs.Check.{Words, tooLarge, uneven, checked}
 use Rattle.binary.specs.declared.FileWritten.the-variants.{Written, Unwritten}
 use Rattle.binary.specs.Write.{partsOf, writing}
 use Rattle.file_words.specs.Write.{Seen, writtenNumber, writtenWords, writeSeen}
 
--- inputs, counts, next states, gates, sizes, roots
+-- inputs, counts, next states, resets, gates, sizes, roots
+abbrev givenWith : ℕ → List ℕ → List ℕ → List ℕ → List ℕ → List ℕ → List ℕ → Words
+givenWith inputs counts nexts resets gates sizes roots =
+    record { inputs = inputs; counts = counts; nexts = nexts; resets = resets; gates = gates; sizes = sizes; roots = roots }
+
+-- the same with every reset 0
 abbrev given : ℕ → List ℕ → List ℕ → List ℕ → List ℕ → List ℕ → Words
-given inputs counts nexts gates sizes roots =
-    record { inputs = inputs; counts = counts; nexts = nexts; gates = gates; sizes = sizes; roots = roots }
+given inputs counts nexts gates sizes roots = givenWith inputs counts nexts (replicate (length nexts) 0) gates sizes roots
 
 -- what C sees: the number, the lent bytes, the answer words
 abbrev sees : ℕ → List ℕ → List ℕ → Seen
@@ -60,11 +64,13 @@ pub written-words-pinned :
     × (writtenWords (Unwritten Misshapen 0) ≡ 0 ∷ 0 ∷ [])
     × (writtenNumber (Unwritten (Over (literal 30)) 0) ≡ 4)
     × (writtenWords (Unwritten (Over (literal 30)) 0) ≡ 30 ∷ 0 ∷ [])
+    × (writtenNumber (Unwritten (Reset (literal 30)) 0) ≡ 22)
+    × (writtenWords (Unwritten (Reset (literal 30)) 0) ≡ 30 ∷ 0 ∷ [])
     × (writtenNumber (Unwritten (Disordered (literal 30)) 0) ≡ 23)
     × (writtenWords (Unwritten (Disordered (literal 30)) 0) ≡ 30 ∷ 0 ∷ [])
     × (writtenNumber (Unwritten Short 99) ≡ 3)
     × (writtenWords (Unwritten Short 99) ≡ 0 ∷ 99 ∷ [])
-written-words-pinned = (refl, refl, refl, refl, refl, refl, refl, refl, refl, refl, refl, refl)
+written-words-pinned = (refl, refl, refl, refl, refl, refl, refl, refl, refl, refl, refl, refl, refl, refl)
 
 -- circuits that are written
 pub written-pinned :
@@ -72,14 +78,17 @@ pub written-pinned :
     (writeSeen small (replicate 46 7) three ≡ sees 0 (smallBytes ++ 7 ∷ 7 ∷ []) (0 ∷ 44 ∷ 53 ∷ []))
     -- just enough of both
     × (writeSeen small (replicate 44 7) (51 ∷ 52 ∷ []) ≡ sees 0 smallBytes (0 ∷ 44 ∷ []))
+    -- aig 3 1 2 0 0, latch 4 with reset 1, latch 6 unset: `2 1` and `3 6`
+    × (writeSeen (givenWith 1 (replicate 5 0) (2 ∷ 3 ∷ []) (1 ∷ 6 ∷ []) [] [] []) (replicate 23 7) three
+    ≡ sees 0 (97 ∷ 105 ∷ 103 ∷ 32 ∷ 51 ∷ 32 ∷ 49 ∷ 32 ∷ 50 ∷ 32 ∷ 48 ∷ 32 ∷ 48 ∷ 10 ∷ 50 ∷ 32 ∷ 49 ∷ 10 ∷ 51 ∷ 32 ∷ 54 ∷ 10 ∷ 7 ∷ []) (0 ∷ 22 ∷ 53 ∷ []))
     -- the empty circuit: aig 0 0 0 0 0
     × (writeSeen (given 0 (replicate 5 0) [] [] [] []) (replicate 15 7) three
     ≡ sees 0 (97 ∷ 105 ∷ 103 ∷ 32 ∷ 48 ∷ 32 ∷ 48 ∷ 32 ∷ 48 ∷ 32 ∷ 48 ∷ 32 ∷ 48 ∷ 10 ∷ 7 ∷ []) (0 ∷ 14 ∷ 53 ∷ []))
     -- aig 101 100 0 0 1, and the gate 202(10,10): a delta of two bytes, and one of zero
     × (writeSeen (given 100 (replicate 5 0) [] (10 ∷ 10 ∷ []) [] []) (replicate 22 7) three
     ≡ sees 0 (97 ∷ 105 ∷ 103 ∷ 32 ∷ 49 ∷ 48 ∷ 49 ∷ 32 ∷ 49 ∷ 48 ∷ 48 ∷ 32 ∷ 48 ∷ 32 ∷ 48 ∷ 32 ∷ 49 ∷ 10 ∷ 192 ∷ 1 ∷ 0 ∷ 7 ∷ []) (0 ∷ 21 ∷ 53 ∷ []))
-unfolding writeSeen writing checked tooLarge uneven firstCode partsOf afterTag countBytes lineBytes rootsBytes digitsOf shortest
-written-pinned = (refl, refl, refl, refl)
+unfolding writeSeen writing checked tooLarge uneven firstCode partsOf afterTag countBytes resetBytes latchBytes lineBytes rootsBytes digitsOf shortest
+written-pinned = (refl, refl, refl, refl, refl)
 
 -- each refusal, alone and with those that come after it
 pub write-refusals-pinned :
@@ -105,6 +114,14 @@ pub write-refusals-pinned :
     × (writeSeen (given 2 counts (12 ∷ []) gates (2 ∷ []) roots) (replicate 46 7) three ≡ refused 46 4 12 0)
     × (writeSeen (given 2 counts (8 ∷ []) gates (2 ∷ []) (10 ∷ 9 ∷ 3 ∷ 7 ∷ 6 ∷ 12 ∷ [])) (replicate 46 7) three ≡ refused 46 4 12 0)
     × (writeSeen (given 2 counts (13 ∷ []) (8 ∷ 2 ∷ 8 ∷ 3 ∷ []) (2 ∷ []) roots) [] three ≡ refused 0 4 13 0)
+    -- 22: an input's literal, the own one negated; 4 before it, by a later code; 22 before 23 and before 3
+    × (writeSeen (givenWith 2 counts (8 ∷ []) (2 ∷ []) gates (2 ∷ []) roots) (replicate 46 7) three ≡ refused 46 22 2 0)
+    × (writeSeen (givenWith 2 counts (8 ∷ []) (7 ∷ []) gates (2 ∷ []) roots) (replicate 46 7) three ≡ refused 46 22 7 0)
+    × (writeSeen (givenWith 2 counts (8 ∷ []) (7 ∷ []) gates (2 ∷ []) (10 ∷ 9 ∷ 3 ∷ 7 ∷ 6 ∷ 12 ∷ [])) (replicate 46 7) three ≡ refused 46 4 12 0)
+    × (writeSeen (givenWith 2 counts (8 ∷ []) (7 ∷ []) (8 ∷ 2 ∷ 8 ∷ 3 ∷ []) (2 ∷ []) roots) [] three ≡ refused 0 22 7 0)
+    -- 2: a reset too many, and none
+    × (writeSeen (givenWith 2 counts (8 ∷ []) (0 ∷ 0 ∷ []) gates (2 ∷ []) roots) (replicate 46 7) three ≡ refused 46 2 0 0)
+    × (writeSeen (givenWith 2 counts (8 ∷ []) [] gates (2 ∷ []) roots) (replicate 46 7) three ≡ refused 46 2 0 0)
     -- 23, with the gate's own code: a first input that is the gate, one that is below the second, and before the bytes are too few
     × (writeSeen (given 2 counts (8 ∷ []) (8 ∷ 2 ∷ 8 ∷ 3 ∷ []) (2 ∷ []) roots) (replicate 46 7) three ≡ refused 46 23 8 0)
     × (writeSeen (given 2 counts (8 ∷ []) (6 ∷ 2 ∷ 3 ∷ 8 ∷ []) (2 ∷ []) roots) (replicate 46 7) three ≡ refused 46 23 10 0)
@@ -112,8 +129,14 @@ pub write-refusals-pinned :
     -- 3: a byte too few, and none at all; the bytes needed are told
     × (writeSeen small (replicate 43 7) three ≡ refused 43 3 0 44)
     × (writeSeen small [] three ≡ refused 0 3 0 44)
-unfolding writeSeen writing checked tooLarge uneven firstCode partsOf afterTag countBytes lineBytes rootsBytes digitsOf shortest
+unfolding writeSeen writing checked tooLarge uneven firstCode partsOf afterTag countBytes resetBytes latchBytes lineBytes rootsBytes digitsOf shortest
 write-refusals-pinned = (
+  refl,
+  refl,
+  refl,
+  refl,
+  refl,
+  refl,
   refl,
   refl,
   refl,

@@ -11,10 +11,11 @@ use Rattle.binary.specs.declared.FileAnswer.the-variants.{Taken, Refused}
 use Rattle.binary.specs.declared.FileRead.{FileRead}
 use Rattle.binary.specs.Promise.{Lists, Outcome, outcome}
 
--- all that C sees afterwards: the number answered, the four lists that reading writes, and the answer words
+-- all that C sees afterwards: the number answered, the five lists that reading writes, and the answer words
 pub record Seen : Type 0 where
   pub number : ℕ
   pub nexts : List ℕ
+  pub resets : List ℕ
   pub gates : List ℕ
   pub sizes : List ℕ
   pub roots : List ℕ
@@ -22,7 +23,7 @@ pub record Seen : Type 0 where
 
 abbrev pub seenOf : ℕ → Lists → List ℕ → Seen
 seenOf number l words =
-    record { number = number; nexts = l .nexts; gates = l .gates; sizes = l .sizes; roots = l .roots; words = words }
+    record { number = number; nexts = l .nexts; resets = l .resets; gates = l .gates; sizes = l .sizes; roots = l .roots; words = words }
 
 -- what C sees when a call returns, as the contract writes it down, a field a line
 abbrev pub fileSeen : Seen → Seen

@@ -74,6 +74,7 @@ fn put_words(said: FileRead, answer: &mut [u64])
 pub fn read(
     bytes: &[u8],
     nexts: &mut [u32],
+    resets: &mut [u32],
     gates: &mut [u32],
     sizes: &mut [u32],
     roots: &mut [u32],
@@ -82,12 +83,14 @@ pub fn read(
     ensures { λ r. ⌜ fileSeen (record {
       number = r;
       nexts = now (nexts .exit);
+      resets = now (resets .exit);
       gates = now (gates .exit);
       sizes = now (sizes .exit);
       roots = now (roots .exit);
       words = now (answer .exit);
     }) ≡ readSeen (now (bytes .entry)) (record {
       nexts = now (nexts .entry);
+      resets = now (resets .entry);
       gates = now (gates .entry);
       sizes = now (sizes .entry);
       roots = now (roots .entry);
@@ -96,7 +99,7 @@ pub fn read(
     if answer.len() < 11 {
         return 3;
     }
-    let said = binary::read(bytes, nexts, gates, sizes, roots);
+    let said = binary::read(bytes, nexts, resets, gates, sizes, roots);
     put_words(said, answer);
     let what = said.answer;
     number(what)
@@ -109,6 +112,7 @@ pub fn write(
     inputs: u32,
     counts: &[u32],
     nexts: &[u32],
+    resets: &[u32],
     gates: &[u32],
     sizes: &[u32],
     roots: &[u32],
@@ -123,6 +127,7 @@ pub fn write(
       inputs = inputs;
       counts = now (counts .entry);
       nexts = now (nexts .entry);
+      resets = now (resets .entry);
       gates = now (gates .entry);
       sizes = now (sizes .entry);
       roots = now (roots .entry);
@@ -136,6 +141,6 @@ pub fn write(
         return 2;
     }
     let shape = written::shape_of(inputs, counts);
-    let said = binary::write(shape, nexts, gates, sizes, roots, out);
+    let said = binary::write(shape, nexts, resets, gates, sizes, roots, out);
     written::put_answer(said, answer)
 }

@@ -10,6 +10,8 @@ use Rattle.lent.proofs.words.counted.Kinds as counted-kinds
 use Rattle.lent.proofs.words.counted.Reads as counted-contract
 use Rattle.lent.proofs.words.place_of.Kinds as place-kinds
 use Rattle.lent.proofs.words.place_of.Reads as place-contract
+use Rattle.lent.proofs.words.is_reset.Kinds as reset-kinds
+use Rattle.lent.proofs.words.is_reset.Reads as reset-contract
 use Rattle.lent.proofs.words.store.Kinds as store-kinds
 use Rattle.lent.proofs.words.store.Reads as store-contract
 use Rattle.lent.proofs.words.fill_front.Kinds as fill-front-kinds
@@ -31,6 +33,9 @@ one-counted κs a x y e f p q = p .same ∙ sym (q .same)
 
 pub one-place-of : Determines 0 place-kinds.ps place-kinds.r place-contract.Learnt
 one-place-of κs a x y e f p q = p ∙ sym q
+
+pub one-is-reset : Determines 0 reset-kinds.ps reset-kinds.r reset-contract.Learnt
+one-is-reset κs a x y e f p q = p ∙ sym q
 
 pub one-store : DeterminesCells 1 store-kinds.ps store-kinds.r store-contract.Learnt (λ κs e. now (e .0))
 one-store κs a x y e f p q = (refl, p ∙ sym q)

@@ -3,6 +3,7 @@ ghost use mathlib.Core.Path.{_≡_};
 ghost use lib.ListN.{length, replicate, set};
 ghost use Rattle.lit.specs.Code.{var};
 ghost use Rattle.lent.specs.Counted.{Counted};
+ghost use Rattle.circuit.specs.Circuit.{isReset};
 ghost use Rattle.circuit.specs.Outcome.{onto};
 use lit::Lit;
 
@@ -25,6 +26,16 @@ pub fn place_of(lit: Lit) -> usize
     ensures { λ r. ⌜ r ≡ var (lit .0) ⌝ }
 {
     wide(lit.var().index())
+}
+
+// Whether a word may be the reset of a latch with this literal.
+pub fn is_reset(own: u32, reset: u32) -> bool
+    ensures { λ r. ⌜ r ≡ isReset own reset ⌝ }
+{
+    if reset <= 1 {
+        return true;
+    }
+    reset == own
 }
 
 // One word in a cell, if the cell is there.

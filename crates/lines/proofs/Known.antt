@@ -1,19 +1,22 @@
 -- What holds of lines, latch lines and a root section that are read: how many there are, and that each literal is within the limit. Assumes nothing.
-use Prim.Native.Nat.{ℕ, _+_, _≤_}
-use mathlib.Core.Path.{_≡_, subst}
+use Prim.Native.Nat.{ℕ, _+_, _*_, _≤_}
+use mathlib.Core.Path.{_≡_, refl, _∙_, subst}
+use mathlib.Core.Bool.{Bool, true, false, cond}
 use mathlib.Core.Logic.{_⊎_, inl, inr}
-use mathlib.Core.List.{List, _++_}
+use mathlib.Core.List.{List, [], _∷_, _++_, map}
 use native.Mathlib.Omega.{arith}
-use lib.ListN.{length, length-append}
+use lib.ListN.{length, length-append, length-map}
 use Rattle.circuit.specs.Graph.{In}
 use Rattle.circuit.specs.Outcome.{limit, total}
 use Rattle.circuit.specs.Claims.{AllWithin}
 use Rattle.circuit.proofs.Lists.{In-cases}
 use Rattle.lines.specs.declared.Header.{Header}
 use Rattle.lines.specs.Reading.{Read, got, _▸_}
-use Rattle.lines.specs.Lines.{newlineAt, numberAt, lineAt, linesAt, resetAt, latchAt, latchesAt}
+use Rattle.lines.specs.Lines.{isByte, spaceAt, newlineAt, numberAt, lineAt, linesAt}
+use Rattle.lines.specs.Lines.{LatchLine, latchLine, nextsOf, resetsOf, resetLineAt, resetAt, latchAt, latchesAt}
 use Rattle.lines.specs.Sections.{Roots, rootsOf, firstRoots, rootCount, rootRoomAt, propertiesAt, sizesAt, rootsAt}
 use Rattle.lines.proofs.Heads.{two, got-same, number-within, row-length, row-each}
+use Rattle.lines.proofs.Resets.{line-of-reset}
 use Rattle.lines.proofs.Sections.{lines-length, properties-fit}
 
 -- a line, and lines
@@ -30,21 +33,55 @@ pub lines-within : (s : List ℕ) (most n at : ℕ) (vs : List ℕ) (end : ℕ) 
 unfolding linesAt
 lines-within s most n at vs end e = row-each (λ v. v ≤ most) (λ k. lineAt s most) (λ k p v q f. line-within s most p v q f) 0 n at vs end e
 
-latch-within : (s : List ℕ) (most at v end : ℕ) → latchAt s most at ≡ got v end → v ≤ most
+-- a latch's line, and latch lines
+
+reset-line-within : (s : List ℕ) (most own at r end : ℕ) → resetLineAt s most own at ≡ got r end → r ≤ most
+reset-line-within s most own at r end e = line-within s most at r end (line-of-reset s most own at r end e .0)
+
+reset-within : (s : List ℕ) (most own at r end : ℕ) → resetAt s most own at ≡ got r end → r ≤ most
+unfolding resetAt
+reset-within s most own at r end e = go (isByte s 32 at) e
+  where
+    go : (t : Bool) → cond t (spaceAt s at ▸ λ _ at₁. resetLineAt s most own at₁) (newlineAt s at ▸ λ _ at₁. got 0 at₁) ≡ got r end → r ≤ most
+    go true f = let t = two (spaceAt s at) (λ _ at₁. resetLineAt s most own at₁) r end f in reset-line-within s most own (t .place) r end (t .then)
+    go false f = let t = two (newlineAt s at) (λ _ at₁. got 0 at₁) r end f in omega (arith, got-same (t .then))
+
+latch-within : (s : List ℕ) (most own at : ℕ) (l : LatchLine) (end : ℕ) → latchAt s most own at ≡ got l end → (l .next ≤ most) × (l .reset ≤ most)
 unfolding latchAt
-latch-within s most at v end e =
-    let t = two (numberAt s most at) (λ w at₁. resetAt s most at₁ ▸ λ _ at₂. got w at₂) v end e in
-    let u = two (resetAt s most (t .place)) (λ _ at₂. got (t .first) at₂) v end (t .then) in
-    let same : t .first ≡ v = got-same (u .then) in
-    omega (arith, same, number-within s most at (t .first) (t .place) (t .read))
+latch-within s most own at l end e =
+    let t = two (numberAt s most at) (λ v at₁. resetAt s most own at₁ ▸ λ r at₂. got (latchLine v r) at₂) l end e in
+    let u = two (resetAt s most own (t .place)) (λ r at₂. got (latchLine (t .first) r) at₂) l end (t .then) in
+    subst (λ (x : LatchLine). (x .next ≤ most) × (x .reset ≤ most)) (got-same (u .then))
+    (number-within s most at (t .first) (t .place) (t .read), reset-within s most own (t .place) (u .first) (u .place) (u .read))
 
-pub latches-within : (s : List ℕ) (most n at : ℕ) (vs : List ℕ) (end : ℕ) → latchesAt s most n at ≡ got vs end → AllWithin most vs
-unfolding latchesAt
-latches-within s most n at vs end e = row-each (λ v. v ≤ most) (λ k. latchAt s most) (λ k p v q f. latch-within s most p v q f) 0 n at vs end e
+-- what holds of each line's number holds of each number of their list
+each-within : (most : ℕ) (f : LatchLine → ℕ) (ls : List LatchLine) → ((l : LatchLine) → In l ls → f l ≤ most) → AllWithin most (map f ls)
+each-within most f [] within v i = absurd i
+each-within most f (l ∷ ls) within v (inl e) = omega (arith, e, within l (inl refl))
+each-within most f (l ∷ ls) within v (inr i) = each-within most f ls (λ k j. within k (inr j)) v i
 
-pub latches-length : (s : List ℕ) (most n at : ℕ) (vs : List ℕ) (end : ℕ) → latchesAt s most n at ≡ got vs end → length vs ≡ n
-unfolding latchesAt
-latches-length s most n at vs end e = row-length (λ k. latchAt s most) 0 n at vs end e
+module _ (s : List ℕ) (most first n at : ℕ) (ls : List LatchLine) (end : ℕ) (e : latchesAt s most first n at ≡ got ls end) where
+  latches-within : (l : LatchLine) → In l ls → (l .next ≤ most) × (l .reset ≤ most)
+  unfolding latchesAt
+  latches-within =
+      row-each (λ l. (l .next ≤ most) × (l .reset ≤ most)) (λ k. latchAt s most (first + 2 * k))
+      (λ k p l q f. latch-within s most (first + 2 * k) p l q f) 0 n at ls end e
+
+  pub nexts-within : AllWithin most (nextsOf ls)
+  nexts-within = each-within most (λ l. l .next) ls (λ l i. latches-within l i .0)
+
+  pub resets-within : AllWithin most (resetsOf ls)
+  resets-within = each-within most (λ l. l .reset) ls (λ l i. latches-within l i .1)
+
+  pub latches-length : length ls ≡ n
+  unfolding latchesAt
+  latches-length = row-length (λ k. latchAt s most (first + 2 * k)) 0 n at ls end e
+
+  pub nexts-length : length (nextsOf ls) ≡ n
+  nexts-length = length-map ls (λ l. l .next) ∙ latches-length
+
+  pub resets-length : length (resetsOf ls) ≡ n
+  resets-length = length-map ls (λ l. l .reset) ∙ latches-length
 
 -- lists one after the other
 both-within : (most : ℕ) (xs ys : List ℕ) → AllWithin most xs → AllWithin most ys → AllWithin most (xs ++ ys)

@@ -1,6 +1,6 @@
 -- Refusal 3 comes of the tests of the lists alone: no byte, number, line or header is refused by it, and the root section is not where its root list has
 -- as many cells as there may be roots. Assumes nothing.
-use Prim.Native.Nat.{ℕ, zero, suc, _+_, _-_, _≤_}
+use Prim.Native.Nat.{ℕ, zero, suc, _+_, _-_, _*_, _≤_}
 use mathlib.Core.Path.{_≡_, refl, ap}
 use mathlib.Core.Bool.{Bool, true, false, cond}
 use mathlib.Core.List.{List, [], _∷_, _++_}
@@ -11,12 +11,14 @@ use borrow.Author.Tests.{le-ltb, ltb-false}
 use Rattle.token.specs.Answer.{headerFieldAt}
 use Rattle.token.specs.declared.Token.{Token}
 use Rattle.token.specs.declared.Token.the-variants.{Value, Refused}
+use Rattle.circuit.specs.Circuit.{isReset}
 use Rattle.circuit.specs.Outcome.{limit, total}
 use Rattle.lines.specs.declared.Fault.{Fault}
-use Rattle.lines.specs.declared.Fault.the-variants.{Number, Missing, TooMany, Short}
+use Rattle.lines.specs.declared.Fault.the-variants.{Number, Missing, Reset, TooMany, Short}
 use Rattle.lines.specs.declared.Header.{Header}
 use Rattle.lines.specs.Reading.{Read, got, no, _▸_, rowAt}
-use Rattle.lines.specs.Lines.{isByte, byteAt, newlineAt, spaceAt, begins, tagAt, numberOf, numberAt, lineAt, linesAt, resetAt, latchAt, latchesAt}
+use Rattle.lines.specs.Lines.{isByte, byteAt, newlineAt, spaceAt, begins, tagAt, numberOf, numberAt, lineAt, linesAt}
+use Rattle.lines.specs.Lines.{latchLine, resetLineAt, resetAt, latchAt, latchesAt}
 use Rattle.lines.specs.Sections.{countAt, optionsAt, headerOf, othersAt, countsAt, headerAt, rootsOf, firstRoots, rootCount, rootRoomAt, propertiesAt, sizesAt, rootsAt}
 
 -- the reading is not refused by 3
@@ -69,23 +71,34 @@ never-lines : (s : List ℕ) (most n at : ℕ) → Never (linesAt s most n at)
 unfolding linesAt
 never-lines s most n at = never-row (λ k. lineAt s most) (λ k. never-line s most) 0 n at
 
-never-reset : (s : List ℕ) (most at : ℕ) → Never (resetAt s most at)
-unfolding resetAt
-never-reset s most at = go (isByte s 32 at)
+never-reset-line : (s : List ℕ) (most own at : ℕ) → Never (resetLineAt s most own at)
+unfolding resetLineAt
+never-reset-line s most own at =
+    never-then (numberAt s most at) (λ r at₁. cond (isReset own r) (newlineAt s at₁ ▸ λ _ at₂. got r at₂) (no Reset at)) (never-number s most at)
+    (λ r at₁ _. go r at₁ (isReset own r))
   where
-    go : (t : Bool) → Never (cond t (spaceAt s at ▸ λ _ at₁. lineAt s most at₁) (newlineAt s at ▸ λ _ at₁. got 0 at₁))
-    go true = never-then (spaceAt s at) (λ _ at₁. lineAt s most at₁) (never-byte s 32 at) (λ _ at₁ _. never-line s most at₁)
+    go : (r at₁ : ℕ) (t : Bool) → Never (cond t (newlineAt s at₁ ▸ λ _ at₂. got r at₂) (no Reset at))
+    go r at₁ true = never-then (newlineAt s at₁) (λ _ at₂. got r at₂) (never-byte s 10 at₁) (λ _ at₂ _. never-got r at₂)
+    go r at₁ false = never-no Reset at (λ w. let z : _≡_ {A = ℕ} 0 1 = cc in omega arith)
+
+never-reset : (s : List ℕ) (most own at : ℕ) → Never (resetAt s most own at)
+unfolding resetAt
+never-reset s most own at = go (isByte s 32 at)
+  where
+    go : (t : Bool) → Never (cond t (spaceAt s at ▸ λ _ at₁. resetLineAt s most own at₁) (newlineAt s at ▸ λ _ at₁. got 0 at₁))
+    go true = never-then (spaceAt s at) (λ _ at₁. resetLineAt s most own at₁) (never-byte s 32 at) (λ _ at₁ _. never-reset-line s most own at₁)
     go false = never-then (newlineAt s at) (λ _ at₁. got 0 at₁) (never-byte s 10 at) (λ _ at₁ _. never-got 0 at₁)
 
-never-latch : (s : List ℕ) (most at : ℕ) → Never (latchAt s most at)
+never-latch : (s : List ℕ) (most own at : ℕ) → Never (latchAt s most own at)
 unfolding latchAt
-never-latch s most at =
-    never-then (numberAt s most at) (λ v at₁. resetAt s most at₁ ▸ λ _ at₂. got v at₂) (never-number s most at)
-    (λ v at₁ _. never-then (resetAt s most at₁) (λ _ at₂. got v at₂) (never-reset s most at₁) (λ _ at₂ _. never-got v at₂))
+never-latch s most own at =
+    never-then (numberAt s most at) (λ v at₁. resetAt s most own at₁ ▸ λ r at₂. got (latchLine v r) at₂) (never-number s most at)
+    (λ v at₁ _. never-then (resetAt s most own at₁) (λ r at₂. got (latchLine v r) at₂) (never-reset s most own at₁)
+    (λ r at₂ _. never-got (latchLine v r) at₂))
 
-pub never-latches : (s : List ℕ) (most n at : ℕ) → Never (latchesAt s most n at)
+pub never-latches : (s : List ℕ) (most first n at : ℕ) → Never (latchesAt s most first n at)
 unfolding latchesAt
-never-latches s most n at = never-row (λ k. latchAt s most) (λ k. never-latch s most) 0 n at
+never-latches s most first n at = never-row (λ k. latchAt s most (first + 2 * k)) (λ k. never-latch s most (first + 2 * k)) 0 n at
 
 -- the header
 

@@ -8,19 +8,22 @@ use Rattle.token.specs.Format.{digitsOf}
 use Rattle.token.specs.Answer.{digitsAt, uintAt, headerFieldAt}
 use Rattle.token.specs.declared.Reason.the-variants.{NoDigit, LeadingZero, OverLimit, Cut, TooLong}
 use Rattle.token.specs.declared.Token.the-variants.{Value, Refused}
-use Rattle.lines.specs.declared.Fault.the-variants.{Number, Missing, Above, TooMany, Short}
+use Rattle.lines.specs.declared.Fault.the-variants.{Number, Missing, Above, Reset, TooMany, Short}
 use Rattle.lines.specs.declared.Ended.{Ended}
 use Rattle.lines.specs.declared.Ended.the-variants.{After, Broken}
 use Rattle.lines.specs.declared.Reading.{Reading}
 use Rattle.lines.specs.declared.Reading.the-variants.{Is, Not}
+use Rattle.lines.specs.declared.LatchRead.the-variants.{Latch, NoLatch}
 use Rattle.lines.specs.declared.FirstLine.the-variants.{Counts, NoCounts}
 use Rattle.lines.specs.declared.Header.{Header}
 use Rattle.lines.specs.Numbers.{faultNumber}
 use Rattle.lines.specs.Reading.{Read, got, no, _▸_, rowAt}
-use Rattle.lines.specs.Lines.{isByte, byteAt, spaceAt, newlineAt, begins, tagOf, tagAt, numberOf, numberAt, lineAt, linesAt, resetAt, latchAt, latchesAt}
+use Rattle.lines.specs.Lines.{isByte, byteAt, spaceAt, newlineAt, begins, tagOf, tagAt, numberOf, numberAt, lineAt, linesAt}
+use Rattle.lines.specs.Lines.{latchLine, nextsOf, resetsOf, resetLineAt, resetAt, latchAt, latchesAt, wordOf}
 use Rattle.lines.specs.Sections.{countAt, optionsAt, headerOf, othersAt, countsAt, headerAt, topCode}
 use Rattle.lines.specs.Sections.{Roots, rootsOf, firstRoots, rootCount, rootRoomAt, propertiesAt, sizesAt, rootsAt}
-use Rattle.lines.specs.Promise.{ended, reading, firstLine, stored, Left, seen, rootsLeft, Stores, StoresSizes, StoresRoots}
+use Rattle.lines.specs.Promise.{ended, reading, latchRead, firstLine, LatchLists, latchLists, LatchesLeft, latchesSeen, latchesLeft, StoresLatches}
+use Rattle.lines.specs.Promise.{Left, seen, rootsLeft, Stores, StoresSizes, StoresRoots}
 
 -- 1. Reading forward.
 
@@ -98,27 +101,81 @@ pub numbers-pinned :
 unfolding digitsOf digitsAt uintAt headerFieldAt isByte byteAt numberAt lineAt linesAt
 numbers-pinned = (refl, refl, refl, refl, refl, refl, refl, refl, refl, refl, refl, refl, refl, refl, refl)
 
+-- the literal of the latch is 4 and the limit 5, unless another is said
+pub resets-pinned :
+    -- after the 12 of `12 3\n` the reset 3 as the latch's own literal, up to 3 and up to 2; none; no newline; no digit
+    (resetAt (49 ∷ 50 ∷ 32 ∷ 51 ∷ 10 ∷ []) 3 3 2 ≡ got 3 5)
+    × (resetAt (49 ∷ 50 ∷ 32 ∷ 51 ∷ 10 ∷ []) 2 3 2 ≡ no (Number OverLimit) 3)
+    × (resetAt (49 ∷ 50 ∷ 10 ∷ []) 3 3 2 ≡ got 0 3)
+    × (resetAt (49 ∷ 50 ∷ 120 ∷ []) 3 3 2 ≡ no Missing 2)
+    × (resetAt (49 ∷ 50 ∷ 32 ∷ 51 ∷ 120 ∷ []) 3 3 2 ≡ no Missing 4)
+    × (resetAt (49 ∷ 50 ∷ 32 ∷ 10 ∷ []) 3 3 2 ≡ no (Number NoDigit) 3)
+    × (resetAt (49 ∷ 50 ∷ 32 ∷ 48 ∷ 49 ∷ 10 ∷ []) 3 3 2 ≡ no (Number LeadingZero) 3)
+    -- after a space, `1\n` and `3\n` alone
+    × (resetLineAt (49 ∷ 10 ∷ []) 5 4 0 ≡ got 1 2)
+    × (resetLineAt (51 ∷ 10 ∷ []) 5 4 0 ≡ no Reset 0)
+    -- `2\n`, `2 0\n`, `2 1\n`, `2 4\n`: none, which is 0, and each that may be
+    × (latchAt (50 ∷ 10 ∷ []) 5 4 0 ≡ got (latchLine 2 0) 2)
+    × (latchAt (50 ∷ 32 ∷ 48 ∷ 10 ∷ []) 5 4 0 ≡ got (latchLine 2 0) 4)
+    × (latchAt (50 ∷ 32 ∷ 49 ∷ 10 ∷ []) 5 4 0 ≡ got (latchLine 2 1) 4)
+    × (latchAt (50 ∷ 32 ∷ 52 ∷ 10 ∷ []) 5 4 0 ≡ got (latchLine 2 4) 4)
+    -- `2 2\n`, `2 3\n`, and `2 5\n`, the literal negated: 22 at the number
+    × (latchAt (50 ∷ 32 ∷ 50 ∷ 10 ∷ []) 5 4 0 ≡ no Reset 2)
+    × (latchAt (50 ∷ 32 ∷ 51 ∷ 10 ∷ []) 5 4 0 ≡ no Reset 2)
+    × (latchAt (50 ∷ 32 ∷ 53 ∷ 10 ∷ []) 5 4 0 ≡ no Reset 2)
+    -- `2 3` at the end of the file: 22 before 18; `2 4`: 18
+    × (latchAt (50 ∷ 32 ∷ 51 ∷ []) 5 4 0 ≡ no Reset 2)
+    × (latchAt (50 ∷ 32 ∷ 52 ∷ []) 5 4 0 ≡ no Missing 3)
+    -- `2 6\n`: 12 before 22; `2 \n`: 10
+    × (latchAt (50 ∷ 32 ∷ 54 ∷ 10 ∷ []) 5 4 0 ≡ no (Number OverLimit) 2)
+    × (latchAt (50 ∷ 32 ∷ 10 ∷ []) 5 4 0 ≡ no (Number NoDigit) 2)
+unfolding digitsOf digitsAt uintAt headerFieldAt isByte byteAt numberAt resetLineAt resetAt latchAt
+resets-pinned = (
+  refl,
+  refl,
+  refl,
+  refl,
+  refl,
+  refl,
+  refl,
+  refl,
+  refl,
+  refl,
+  refl,
+  refl,
+  refl,
+  refl,
+  refl,
+  refl,
+  refl,
+  refl,
+  refl,
+  refl,
+)
+
 pub latches-pinned :
-    -- after the 12 of `12 3\n` the reset 3, up to 3 and up to 2; none; no newline
-    (resetAt (49 ∷ 50 ∷ 32 ∷ 51 ∷ 10 ∷ []) 3 2 ≡ got 3 5)
-    × (resetAt (49 ∷ 50 ∷ 32 ∷ 51 ∷ 10 ∷ []) 2 2 ≡ no (Number OverLimit) 3)
-    × (resetAt (49 ∷ 50 ∷ 10 ∷ []) 3 2 ≡ got 0 3)
-    × (resetAt (49 ∷ 50 ∷ 120 ∷ []) 3 2 ≡ no Missing 2)
-    × (resetAt (49 ∷ 50 ∷ 32 ∷ 51 ∷ 120 ∷ []) 3 2 ≡ no Missing 4)
-    × (resetAt (49 ∷ 50 ∷ 32 ∷ 10 ∷ []) 3 2 ≡ no (Number NoDigit) 3)
-    -- x12 3\n and x12\n up to 12; a reset above the next state; up to 11 at the next state, and a reset over 12
-    × (latchAt (120 ∷ 49 ∷ 50 ∷ 32 ∷ 51 ∷ 10 ∷ []) 12 1 ≡ got 12 6)
-    × (latchAt (120 ∷ 49 ∷ 50 ∷ 10 ∷ []) 12 1 ≡ got 12 4)
-    × (latchAt (120 ∷ 49 ∷ 32 ∷ 51 ∷ 10 ∷ []) 12 1 ≡ got 1 5)
-    × (latchAt (120 ∷ 49 ∷ 50 ∷ 32 ∷ 51 ∷ 10 ∷ []) 11 1 ≡ no (Number OverLimit) 1)
-    × (latchAt (120 ∷ 49 ∷ 32 ∷ 49 ∷ 51 ∷ 10 ∷ []) 12 1 ≡ no (Number OverLimit) 3)
-    -- x12 3\n4\n5\n: two latches, three, none; the third over the limit
-    × (latchesAt (120 ∷ 49 ∷ 50 ∷ 32 ∷ 51 ∷ 10 ∷ 52 ∷ 10 ∷ 49 ∷ 53 ∷ 10 ∷ []) 12 2 1 ≡ got (12 ∷ 4 ∷ []) 8)
-    × (latchesAt (120 ∷ 49 ∷ 50 ∷ 32 ∷ 51 ∷ 10 ∷ 52 ∷ 10 ∷ 49 ∷ 53 ∷ 10 ∷ []) 15 3 1 ≡ got (12 ∷ 4 ∷ 15 ∷ []) 11)
-    × (latchesAt (120 ∷ 49 ∷ 50 ∷ 32 ∷ 51 ∷ 10 ∷ 52 ∷ 10 ∷ 49 ∷ 53 ∷ 10 ∷ []) 12 0 1 ≡ got [] 1)
-    × (latchesAt (120 ∷ 49 ∷ 50 ∷ 32 ∷ 51 ∷ 10 ∷ 52 ∷ 10 ∷ 49 ∷ 53 ∷ 10 ∷ []) 14 3 1 ≡ no (Number OverLimit) 8)
-unfolding digitsOf digitsAt uintAt headerFieldAt isByte byteAt numberAt lineAt resetAt latchAt latchesAt
-latches-pinned = (refl, refl, refl, refl, refl, refl, refl, refl, refl, refl, refl, refl, refl, refl, refl)
+    -- x12 3\n and x12\n up to 12; up to 11 at the next state, and a reset over 12
+    (latchAt (120 ∷ 49 ∷ 50 ∷ 32 ∷ 51 ∷ 10 ∷ []) 12 3 1 ≡ got (latchLine 12 3) 6)
+    × (latchAt (120 ∷ 49 ∷ 50 ∷ 10 ∷ []) 12 3 1 ≡ got (latchLine 12 0) 4)
+    × (latchAt (120 ∷ 49 ∷ 50 ∷ 32 ∷ 51 ∷ 10 ∷ []) 11 3 1 ≡ no (Number OverLimit) 1)
+    × (latchAt (120 ∷ 49 ∷ 32 ∷ 49 ∷ 51 ∷ 10 ∷ []) 12 13 1 ≡ no (Number OverLimit) 3)
+    -- which is which
+    × (latchLine 5 7 ≡ record { next = 5; reset = 7 })
+    × (nextsOf (latchLine 5 7 ∷ latchLine 6 8 ∷ []) ≡ (5 ∷ 6 ∷ []))
+    × (resetsOf (latchLine 5 7 ∷ latchLine 6 8 ∷ []) ≡ (7 ∷ 8 ∷ []))
+    -- x12 1\n4\n15 8\n of latches 4, 6, 8: two, three, none; the third over the limit
+    × (latchesAt (120 ∷ 49 ∷ 50 ∷ 32 ∷ 49 ∷ 10 ∷ 52 ∷ 10 ∷ 49 ∷ 53 ∷ 32 ∷ 56 ∷ 10 ∷ []) 12 4 2 1 ≡ got (latchLine 12 1 ∷ latchLine 4 0 ∷ []) 8)
+    × (latchesAt (120 ∷ 49 ∷ 50 ∷ 32 ∷ 49 ∷ 10 ∷ 52 ∷ 10 ∷ 49 ∷ 53 ∷ 32 ∷ 56 ∷ 10 ∷ []) 15 4 3 1
+    ≡ got (latchLine 12 1 ∷ latchLine 4 0 ∷ latchLine 15 8 ∷ []) 13)
+    × (latchesAt (120 ∷ 49 ∷ 50 ∷ 32 ∷ 49 ∷ 10 ∷ 52 ∷ 10 ∷ 49 ∷ 53 ∷ 32 ∷ 56 ∷ 10 ∷ []) 12 4 0 1 ≡ got [] 1)
+    × (latchesAt (120 ∷ 49 ∷ 50 ∷ 32 ∷ 49 ∷ 10 ∷ 52 ∷ 10 ∷ 49 ∷ 53 ∷ 32 ∷ 56 ∷ 10 ∷ []) 14 4 3 1 ≡ no (Number OverLimit) 8)
+    -- the same lines of latches 2, 4, 6: the third has no such literal
+    × (latchesAt (120 ∷ 49 ∷ 50 ∷ 32 ∷ 49 ∷ 10 ∷ 52 ∷ 10 ∷ 49 ∷ 53 ∷ 32 ∷ 56 ∷ 10 ∷ []) 15 2 3 1 ≡ no Reset 11)
+    -- the largest word, and one more
+    × (wordOf 4294967295 ≡ 4294967295)
+    × (wordOf 4294967296 ≡ 0)
+unfolding digitsOf digitsAt uintAt headerFieldAt isByte byteAt numberAt resetLineAt resetAt latchAt latchesAt wordOf
+latches-pinned = (refl, refl, refl, refl, refl, refl, refl, refl, refl, refl, refl, refl, refl, refl)
 
 -- 4. The header.
 
@@ -278,13 +335,17 @@ pub faults-pinned :
     × (faultNumber (Number TooLong) ≡ 16)
     × (faultNumber Missing ≡ 18)
     × (faultNumber Above ≡ 19)
+    × (faultNumber Reset ≡ 22)
     × (faultNumber TooMany ≡ 1)
     × (faultNumber Short ≡ 3)
-faults-pinned = (refl, refl, refl, refl, refl, refl)
+faults-pinned = (refl, refl, refl, refl, refl, refl, refl)
 
 -- an answer and the two lists
 abbrev leaves : Reading → List ℕ → List ℕ → Left
 leaves answer sizes roots = record { answer = answer; lists = record { sizes = sizes; roots = roots } }
+
+abbrev latched : Ended → List ℕ → List ℕ → LatchesLeft
+latched answer nexts resets = record { answer = answer; lists = record { nexts = nexts; resets = resets } }
 
 pub answers-pinned :
     (ended {A = ℕ} (got 5 7) ≡ After 7)
@@ -293,25 +354,31 @@ pub answers-pinned :
     × (reading (no Above 7) ≡ Not Above 7)
     × (firstLine (got sample 7) ≡ Counts sample 7)
     × (firstLine (no Above 7) ≡ NoCounts Above 7)
-    -- into longer lists, whose other words stay; into shorter ones; all 0 where it is refused
-    × (stored (got (5 ∷ 6 ∷ []) 7) (9 ∷ 8 ∷ 7 ∷ 6 ∷ []) ≡ (5 ∷ 6 ∷ 7 ∷ 6 ∷ []))
-    × (stored (got (5 ∷ 6 ∷ []) 7) (9 ∷ []) ≡ (5 ∷ []))
-    × (stored (no Above 2) (9 ∷ 8 ∷ 7 ∷ []) ≡ (0 ∷ 0 ∷ 0 ∷ []))
+    × (latchRead (got (latchLine 5 6) 7) ≡ Latch 5 6 7)
+    × (latchRead (no Above 7) ≡ NoLatch Above 7)
+    -- into longer lists, whose other words stay, and into shorter ones; all 0 where a line is refused
+    × (latchesLeft (got (latchLine 5 15 ∷ latchLine 6 16 ∷ []) 7) (latchLists (9 ∷ 8 ∷ 7 ∷ []) (19 ∷ [])) ≡ latched (After 7) (5 ∷ 6 ∷ 7 ∷ []) (15 ∷ []))
+    × (latchesLeft (got (latchLine 5 15 ∷ latchLine 6 16 ∷ []) 7) (latchLists (9 ∷ []) (19 ∷ 18 ∷ 17 ∷ [])) ≡ latched (After 7) (5 ∷ []) (15 ∷ 16 ∷ 17 ∷ []))
+    × (latchesLeft (no Above 2) (latchLists (9 ∷ 8 ∷ []) (19 ∷ 18 ∷ 17 ∷ [])) ≡ latched (Broken Above 2) (0 ∷ 0 ∷ []) (0 ∷ 0 ∷ 0 ∷ []))
+    × (latchesSeen (After 7) (latchLists (1 ∷ []) (2 ∷ [])) ≡ latched (After 7) (1 ∷ []) (2 ∷ []))
     × (rootsOf (1 ∷ []) (2 ∷ []) ≡ record { sizes = (1 ∷ []); roots = (2 ∷ []) })
     × (seen (Is 5 7) (rootsOf (1 ∷ []) (2 ∷ [])) ≡ leaves (Is 5 7) (1 ∷ []) (2 ∷ []))
     -- the answer is the sum of the sizes
     × (rootsLeft (got (rootsOf (4 ∷ 3 ∷ []) (5 ∷ [])) 9) (rootsOf (11 ∷ 12 ∷ 13 ∷ []) (14 ∷ 15 ∷ [])) ≡ leaves (Is 7 9) (4 ∷ 3 ∷ 13 ∷ []) (5 ∷ 15 ∷ []))
     × (rootsLeft (no Above 9) (rootsOf (11 ∷ 12 ∷ 13 ∷ []) (14 ∷ 15 ∷ [])) ≡ leaves (Not Above 9) (0 ∷ 0 ∷ 0 ∷ []) (0 ∷ 0 ∷ []))
-answers-pinned = (refl, refl, refl, refl, refl, refl, refl, refl, refl, refl, refl, refl, refl)
+answers-pinned = (refl, refl, refl, refl, refl, refl, refl, refl, refl, refl, refl, refl, refl, refl, refl, refl)
 
 -- what is read stands in the list from a cell on; of a refusal only the answer is told; the sum of the sizes up to one more than the limit
-pub stores-pinned : (e : Ended) (r : Reading) (list : List ℕ) (after : Roots)
+pub stores-pinned : (e : Ended) (r : Reading) (list : List ℕ) (lists : LatchLists) (after : Roots)
     → (_≡_ {A = Type 0} (Stores (got (5 ∷ 6 ∷ []) 7) e 1 (9 ∷ 8 ∷ 7 ∷ 6 ∷ []) list) ((e ≡ After 7) × (list ≡ (9 ∷ 5 ∷ 6 ∷ 6 ∷ []))))
     × (_≡_ {A = Type 0} (Stores (no Above 7) e 1 (9 ∷ 8 ∷ 7 ∷ 6 ∷ []) list) (e ≡ Broken Above 7))
+    × (_≡_ {A = Type 0} (StoresLatches (got (latchLine 5 15 ∷ latchLine 6 16 ∷ []) 7) e (latchLists (9 ∷ 8 ∷ 7 ∷ []) (19 ∷ [])) lists)
+    ((e ≡ After 7) × (lists .nexts ≡ (5 ∷ 6 ∷ 7 ∷ [])) × (lists .resets ≡ (15 ∷ []))))
+    × (_≡_ {A = Type 0} (StoresLatches (no Above 7) e (latchLists (9 ∷ []) (19 ∷ [])) lists) (e ≡ Broken Above 7))
     × (_≡_ {A = Type 0} (StoresSizes (got (5 ∷ 6 ∷ []) 7) r (9 ∷ 8 ∷ 7 ∷ []) list) ((r ≡ Is 11 7) × (list ≡ (5 ∷ 6 ∷ 7 ∷ []))))
     × (_≡_ {A = Type 0} (StoresSizes (got (1048575 ∷ 6 ∷ []) 7) r (9 ∷ 8 ∷ 7 ∷ []) list) ((r ≡ Is 1048576 7) × (list ≡ (1048575 ∷ 6 ∷ 7 ∷ []))))
     × (_≡_ {A = Type 0} (StoresSizes (no Above 7) r (9 ∷ 8 ∷ 7 ∷ []) list) (r ≡ Not Above 7))
     × (_≡_ {A = Type 0} (StoresRoots (got (rootsOf (4 ∷ 3 ∷ []) (5 ∷ [])) 9) r 1 (rootsOf (11 ∷ 12 ∷ 13 ∷ []) (14 ∷ 15 ∷ 16 ∷
     [])) after) ((r ≡ Is 7 9) × (after .sizes ≡ (4 ∷ 3 ∷ 13 ∷ [])) × (after .roots ≡ (14 ∷ 5 ∷ 16 ∷ []))))
     × (_≡_ {A = Type 0} (StoresRoots (no Above 9) r 1 (rootsOf (11 ∷ 12 ∷ 13 ∷ []) (14 ∷ 15 ∷ 16 ∷ [])) after) (r ≡ Not Above 9))
-stores-pinned e r list after = (refl, refl, refl, refl, refl, refl, refl)
+stores-pinned e r list lists after = (refl, refl, refl, refl, refl, refl, refl, refl, refl)

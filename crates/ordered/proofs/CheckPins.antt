@@ -5,12 +5,12 @@ use mathlib.Core.Path.{_≡_, refl}
 use mathlib.Core.Bool.{true, false}
 use mathlib.Core.List.{List, [], _∷_}
 use native.Mathlib.Omega.{arith}
-use lib.ListN.{replicate, length-replicate}
-use borrow.Author.Tests.{lt-ltb, le-ltb, ne-eqb}
+use lib.ListN.{length, replicate, length-replicate}
+use borrow.Author.Tests.{lt-ltb, le-ltb, eq-eqb, ne-eqb}
 use Rattle.lit.specs.Code.{literal}
 use Rattle.circuit.specs.Walk.{Pair, firstCode}
 use Rattle.circuit.specs.Outcome.{total}
-use Rattle.ordered.specs.declared.given.Fault.the-variants.{TooBig, Misshapen, Over, Disordered, Short}
+use Rattle.ordered.specs.declared.given.Fault.the-variants.{TooBig, Misshapen, Over, Reset, Disordered, Short}
 use Rattle.ordered.specs.declared.given.Checked.{Checked}
 use Rattle.ordered.specs.declared.given.Checked.the-variants.{Fits, Faulty}
 use Rattle.ordered.specs.Check.{faultNumber, faultLiteral, Words, circuitIn, wordsOf, tooLarge, uneven, checked}
@@ -20,18 +20,24 @@ pub faults-pinned :
     × (faultNumber Misshapen ≡ 2)
     × (faultNumber Short ≡ 3)
     × (faultNumber (Over (literal 9)) ≡ 4)
+    × (faultNumber (Reset (literal 9)) ≡ 22)
     × (faultNumber (Disordered (literal 9)) ≡ 23)
     × (faultLiteral TooBig ≡ 0)
     × (faultLiteral Misshapen ≡ 0)
     × (faultLiteral Short ≡ 0)
     × (faultLiteral (Over (literal 9)) ≡ 9)
+    × (faultLiteral (Reset (literal 7)) ≡ 7)
     × (faultLiteral (Disordered (literal 8)) ≡ 8)
-faults-pinned = (refl, refl, refl, refl, refl, refl, refl, refl, refl, refl)
+faults-pinned = (refl, refl, refl, refl, refl, refl, refl, refl, refl, refl, refl, refl)
 
--- what is lent: I, counts, next states, gates, sizes, roots
+-- what is lent: I, counts, next states, resets, gates, sizes, roots
+abbrev wordsWith : ℕ → List ℕ → List ℕ → List ℕ → List ℕ → List ℕ → List ℕ → Words
+wordsWith inputs counts nexts resets gates sizes roots =
+    record { inputs = inputs; counts = counts; nexts = nexts; resets = resets; gates = gates; sizes = sizes; roots = roots }
+
+-- the same with every reset 0
 abbrev words : ℕ → List ℕ → List ℕ → List ℕ → List ℕ → List ℕ → Words
-words inputs counts nexts gates sizes roots =
-    record { inputs = inputs; counts = counts; nexts = nexts; gates = gates; sizes = sizes; roots = roots }
+words inputs counts nexts gates sizes roots = wordsWith inputs counts nexts (replicate (length nexts) 0) gates sizes roots
 
 abbrev over : ℕ → Checked
 over c = Faulty (Over (literal c))
@@ -63,11 +69,25 @@ double gates = words 1 none (0 ∷ []) gates [] []
 
 pub words-pinned :
     -- the gates are pairs of words, and one that is left over is none
-    (circuitIn (words 3 (1 ∷ 0 ∷ 0 ∷ 0 ∷ 0 ∷ []) (8 ∷ 3 ∷ []) (6 ∷ 2 ∷ 3 ∷ 9 ∷ 5 ∷ []) (4 ∷ []) (14 ∷ []))
-    ≡ record { inputs = 3; nexts = (8 ∷ 3 ∷ []); gates = pair 6 2 ∷ pair 3 9 ∷ []; counts = (1 ∷ 0 ∷ 0 ∷ 0 ∷ 0 ∷ []); roots = (14 ∷ []) })
+    (circuitIn (wordsWith 3 (1 ∷ 0 ∷ 0 ∷ 0 ∷ 0 ∷ []) (8 ∷ 3 ∷ []) (1 ∷ 10 ∷ []) (6 ∷ 2 ∷ 3 ∷ 9 ∷ 5 ∷ []) (4 ∷ []) (14 ∷ []))
+    ≡ record {
+      inputs = 3;
+      nexts = (8 ∷ 3 ∷ []);
+      resets = (1 ∷ 10 ∷ []);
+      gates = pair 6 2 ∷ pair 3 9 ∷ [];
+      counts = (1 ∷ 0 ∷ 0 ∷ 0 ∷ 0 ∷ []);
+      roots = (14 ∷ []);
+    })
     × (wordsOf
-    (record { inputs = 3; nexts = (8 ∷ 3 ∷ []); gates = pair 6 2 ∷ pair 3 9 ∷ []; counts = (1 ∷ 0 ∷ 0 ∷ 0 ∷ 1 ∷ []); roots = (14 ∷ 15 ∷ []) }) (1 ∷ [])
-    ≡ words 3 (1 ∷ 0 ∷ 0 ∷ 0 ∷ 1 ∷ []) (8 ∷ 3 ∷ []) (6 ∷ 2 ∷ 3 ∷ 9 ∷ []) (1 ∷ []) (14 ∷ 15 ∷ []))
+    (record {
+      inputs = 3;
+      nexts = (8 ∷ 3 ∷ []);
+      resets = (1 ∷ 10 ∷ []);
+      gates = pair 6 2 ∷ pair 3 9 ∷ [];
+      counts = (1 ∷ 0 ∷ 0 ∷ 0 ∷ 1 ∷ []);
+      roots = (14 ∷ 15 ∷ []);
+    }) (1 ∷ [])
+    ≡ wordsWith 3 (1 ∷ 0 ∷ 0 ∷ 0 ∷ 1 ∷ []) (8 ∷ 3 ∷ []) (1 ∷ 10 ∷ []) (6 ∷ 2 ∷ 3 ∷ 9 ∷ []) (1 ∷ []) (14 ∷ 15 ∷ []))
 words-pinned = (refl, refl)
 
 -- circuits that fit
@@ -146,6 +166,39 @@ pub codes-pinned :
 unfolding checked tooLarge uneven firstCode
 codes-pinned = (refl, refl, refl, refl, refl, refl, refl, refl, refl, refl, refl, refl, refl, refl)
 
+-- two inputs and two latches, 6 and 8, with these next states and resets, where no code is over 9
+abbrev latched : List ℕ → List ℕ → Words
+latched nexts resets = wordsWith 2 none nexts resets [] [] []
+
+abbrev stray : ℕ → Checked
+stray c = Faulty (Reset (literal c))
+
+-- resets: 0, 1, the latch's own literal; 22 for the other latch's, the own one negated, an input's; the first that is at fault; each at its place
+pub resets-pinned :
+    (checked (latched (0 ∷ 9 ∷ []) (0 ∷ 1 ∷ [])) 0 ≡ Fits)
+    × (checked (latched (0 ∷ 9 ∷ []) (6 ∷ 8 ∷ [])) 0 ≡ Fits)
+    × (checked (latched (0 ∷ 9 ∷ []) (8 ∷ 8 ∷ [])) 0 ≡ stray 8)
+    × (checked (latched (0 ∷ 9 ∷ []) (6 ∷ 6 ∷ [])) 0 ≡ stray 6)
+    × (checked (latched (0 ∷ 9 ∷ []) (7 ∷ 9 ∷ [])) 0 ≡ stray 7)
+    × (checked (latched (0 ∷ 9 ∷ []) (0 ∷ 9 ∷ [])) 0 ≡ stray 9)
+    × (checked (latched (0 ∷ 9 ∷ []) (2 ∷ 3 ∷ [])) 0 ≡ stray 2)
+    -- 2: one more, one fewer; 2 before 4 and before 22
+    × (checked (latched (0 ∷ 9 ∷ []) (0 ∷ [])) 0 ≡ Faulty Misshapen)
+    × (checked (latched (0 ∷ 9 ∷ []) (0 ∷ 0 ∷ 0 ∷ [])) 0 ≡ Faulty Misshapen)
+    × (checked (latched (0 ∷ 10 ∷ []) (2 ∷ [])) 0 ≡ Faulty Misshapen)
+    -- 4 goes latch by latch, next state and reset; 4 before 22, by a later latch, a root, the code asked
+    × (checked (latched (0 ∷ 9 ∷ []) (0 ∷ 10 ∷ [])) 0 ≡ over 10)
+    × (checked (latched (11 ∷ 9 ∷ []) (10 ∷ 0 ∷ [])) 0 ≡ over 11)
+    × (checked (latched (0 ∷ 11 ∷ []) (10 ∷ 0 ∷ [])) 0 ≡ over 10)
+    × (checked (latched (0 ∷ 10 ∷ []) (2 ∷ 0 ∷ [])) 0 ≡ over 10)
+    × (checked (wordsWith 2 (outputs 1) (0 ∷ 9 ∷ []) (2 ∷ 0 ∷ []) [] [] (10 ∷ [])) 0 ≡ over 10)
+    × (checked (latched (0 ∷ 9 ∷ []) (2 ∷ 0 ∷ [])) 10 ≡ over 10)
+    -- 22 before 23
+    × (checked (wordsWith 1 none (0 ∷ []) (2 ∷ []) (2 ∷ 3 ∷ []) [] []) 0 ≡ stray 2)
+    × (checked (wordsWith 1 none (0 ∷ []) (4 ∷ []) (2 ∷ 3 ∷ []) [] []) 0 ≡ disordered 6)
+unfolding checked tooLarge uneven firstCode
+resets-pinned = (refl, refl, refl, refl, refl, refl, refl, refl, refl, refl, refl, refl, refl, refl, refl, refl, refl, refl)
+
 -- 23: the gate's own code as its first input, and the first below the second; the first gate of two, whichever half it breaks, and the second
 pub order-pinned :
     (checked (single 6 2 0 0) 0 ≡ disordered 6)
@@ -163,7 +216,7 @@ pub order-pinned :
 unfolding checked tooLarge uneven firstCode
 order-pinned = (refl, refl, refl, refl, refl, refl, refl, refl, refl, refl, refl)
 
--- two faults at a time, in the order 1, 2, 4, 23
+-- two faults at a time, in the order 1, 2, 4, 23; with 22 among them above
 pub order-of-checks-pinned :
     -- 1 before 2, by a word that is left over and by each sum; before 4, by each list; before 23
     (checked (gated 1048576 (0 ∷ [])) 0 ≡ Faulty TooBig)
@@ -199,7 +252,7 @@ pub many-pinned :
     × ((n : ℕ) → 1048575 < n → checked (words 0 none [] [] (replicate n 0) []) 0 ≡ Faulty TooBig)
 unfolding checked tooLarge uneven firstCode
 many-pinned = (
-  λ n h. rw (length-replicate {A = ℕ} n 0, le-ltb 1048575 (0 + n + 0) (omega arith)),
+  λ n h. rw (length-replicate {A = ℕ} n 0, length-replicate {A = ℕ} n 0, eq-eqb n n refl, le-ltb 1048575 (0 + n + 0) (omega arith)),
   λ n h. rw (length-replicate {A = ℕ} n 0, lt-ltb 1048575 (0 + n + 0) (omega arith)),
   λ n h. rw (length-replicate {A = ℕ} n 0, le-ltb 1048575 n h, ne-eqb 4294967295 n (omega arith)),
   λ n h. rw (length-replicate {A = ℕ} n 0, lt-ltb 1048575 n h),

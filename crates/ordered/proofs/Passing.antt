@@ -1,4 +1,4 @@
--- An ordered circuit within the limits whose gates are in order passes checks 1, 2 and 4 as it is given: its codes are counted upwards, and an input is below
+-- An ordered circuit within the limits whose gates are in order passes checks 1, 2, 4 and 22 as it is given: its codes are counted upwards, and an input is below
 -- its gate's code, which is at most 2V. It defines no variable twice and all that is walked is grounded, so that renumbering succeeds, and then its values are
 -- kept. Assumes nothing.
 use Prim.Native.Nat.{ℕ, zero, suc, _+_, _*_, _≤_, _<_}
@@ -14,10 +14,10 @@ use Rattle.circuit.specs.declared.Answer.the-variants.{Renumbered}
 use Rattle.circuit.specs.Graph.{In, Graph, DefinedOnce}
 use Rattle.circuit.specs.Walk.{Pair, firstCode}
 use Rattle.circuit.specs.Circuit.{Circuit, graph}
-use Rattle.circuit.specs.Ordered.{Ordered, countFrom, gatesFrom, sourcesOf, given, orderedGraph, InOrder}
+use Rattle.circuit.specs.Ordered.{Ordered, firstLatch, countFrom, gatesFrom, sourcesOf, given, orderedGraph, InOrder}
 use Rattle.circuit.specs.Outcome as C
 use Rattle.circuit.specs.Outcome.{Lent, circuitOf, total, pairWords, held}
-use Rattle.circuit.specs.Claims.{Within, Agrees, Roomy, Bounded, Passes, IsWalked, AllGrounded, SameValue}
+use Rattle.circuit.specs.Claims.{Within, Agrees, Roomy, Bounded, AllReset, Passes, firstValue, IsWalked, AllGrounded, SameValue}
 use Rattle.circuit.specs.Demands.{AfterSuccess}
 use Rattle.circuit.proofs.Demands.{demands}
 use Rattle.circuit.proofs.Listed.{walked-exactly}
@@ -27,6 +27,7 @@ use Rattle.ordered.specs.Expand.{Lists, Outcome, expansion, Lends}
 use Rattle.ordered.specs.WellOrdered.{variablesOf, WellOrdered}
 use Rattle.ordered.specs.Keeps.{Keeps}
 use Rattle.ordered.proofs.Laid.{laid-length, words-length}
+use Rattle.ordered.proofs.Exactly.{in-place, resets-within}
 use Rattle.ordered.proofs.Expansions.{all-filled, expanded-words, expanded-given}
 
 -- codes that are counted, and as many gates as pairs
@@ -47,7 +48,7 @@ module _ (O : Ordered) (k : WellOrdered O) (trim hash fold : Bool) where
       record {
         top = k .variables;
         inputs = omega (arith, countFrom-length 2 (O .inputs), k .variables);
-        latches = omega (arith, countFrom-length (2 + 2 * O .inputs) (length (O .nexts)), k .variables);
+        latches = omega (arith, countFrom-length (firstLatch (O .inputs)) (length (O .nexts)), k .variables);
         gates = omega (arith, gates-length (firstCode (sourcesOf O)) (O .gates), k .variables);
         roots = k .few;
       }
@@ -62,8 +63,9 @@ module _ (O : Ordered) (k : WellOrdered O) (trim hash fold : Bool) where
           omega (arith, p .inside, p .first, o .1),
           omega (arith, p .inside, p .second, o .0, o .1),
         );
-        states = λ c i. omega (arith, in-count (2 + 2 * O .inputs) (length (O .nexts)) c i);
+        states = λ c i. omega (arith, in-count (firstLatch (O .inputs)) (length (O .nexts)) c i);
         nexts = k .nexts;
+        resets = resets-within O (k .resetCount) (k .resets);
         roots = k .roots;
       }
 
@@ -91,35 +93,39 @@ module _ (O : Ordered) (k : WellOrdered O) (trim hash fold : Bool) where
     unfolding given
     agrees =
         let states : length (l .states) ≡ length (O .nexts) =
-        ap (λ (x : Circuit). length (x .states)) same ∙ countFrom-length (2 + 2 * O .inputs) (length (O .nexts)) in
+        ap (λ (x : Circuit). length (x .states)) same ∙ countFrom-length (firstLatch (O .inputs)) (length (O .nexts)) in
         let nexts : length (l .nexts) ≡ length (O .nexts) = ap length (lends .nexts) in
         let words : length (l .gates) ≡ 3 * length (O .gates) =
         ap length (expanded-words O lists o e f trim hash fold l lends) ∙ laid-length (firstCode (sourcesOf O)) (O .gates) in
         let counts : total (l .circuit .counts) ≡ total (O .counts) = ap (λ (x : Circuit). total (x .counts)) same in
         let roots : length (l .roots) ≡ length (O .roots) = ap length (lends .roots) in
-        record { roots = omega (arith, k .counts); latches = omega arith; words = omega arith }
+        let resets : length (l .resets) ≡ length (O .resets) = ap length (lends .resets) in
+        record { roots = omega (arith, k .counts); latches = omega arith; resets = omega (arith, k .resetCount); words = omega arith }
 
     -- the lists to be written are long enough where they are so for O
-    pub roomy : variablesOf O + 1 ≤ length (l .map) → length (O .nexts) ≤ length (l .nextImages) → length (O .roots) ≤ length (l .rootImages)
-        → 2 * length (O .gates) ≤ length (l .gatesOut) → 3 * variablesOf O + 3 + 3 * length (O .gates) ≤ length (l .scratch) → Roomy l (circuitOf l)
+    pub roomy : variablesOf O + 1 ≤ length (l .map) → length (O .nexts) ≤ length (l .nextImages) → length (O .nexts) ≤ length (l .resetImages)
+        → length (O .roots) ≤ length (l .rootImages) → 2 * length (O .gates) ≤ length (l .gatesOut) → 3 * variablesOf O + 3 + 3 * length (O .gates) ≤ length (l .scratch) → Roomy l (circuitOf l)
     unfolding given
-    roomy map nexts roots gates scratch =
+    roomy map nexts resets roots gates scratch =
         let many = gates-length (firstCode (sourcesOf O)) (O .gates) in
         subst⁻¹ (Roomy l) same
         (record {
           map = map;
-          nexts = omega (arith, countFrom-length (2 + 2 * O .inputs) (length (O .nexts)));
+          nexts = omega (arith, countFrom-length (firstLatch (O .inputs)) (length (O .nexts)));
+          resets = omega (arith, countFrom-length (firstLatch (O .inputs)) (length (O .nexts)));
           roots = roots;
           gates = omega (arith, many);
           scratch = omega (arith, many);
         })
 
-    -- checks 1 to 4 are passed where the lists to be written are long enough
+    -- checks 1 to 4 and 22 are passed where the lists to be written are long enough
     pub passes : Roomy l (circuitOf l) → Passes l
+    unfolding given
     passes room =
         record {
           sizes = record { within = subst⁻¹ Within same within; agrees = agrees; roomy = room };
           bounded = subst⁻¹ Bounded same bounded;
+          resets = subst⁻¹ (λ (x : Circuit). AllReset (x .states) (x .resets)) same (k .resets);
         }
 
     -- and renumbering succeeds
@@ -176,6 +182,7 @@ module _ (O : Ordered) (k : WellOrdered O) (trim hash fold : Bool) where
         kept =
             record {
               latches = after .holds .latches ∙ states;
+              firsts = λ j h. after .firstValues j (omega (arith, states)) ∙ ap (λ (x : List ℕ). firstValue (getD x j 0)) (lends .resets);
               rootCount = after .holds .rootCount ∙ roots;
               nexts = λ setting j h.
                   moved setting _ _ _ _ (ap (λ (x : List ℕ). getD x j 0) (lends .nexts)) (sym (after .holds .nexts j (omega (arith, states))))
@@ -196,11 +203,6 @@ fills O k lists p q r =
     (all-filled (O .inputs) (length (O .nexts)) (pairWords (O .gates)) lists (omega (arith, n, k .variables)) (omega (arith, n)) p q (omega (arith, n))))
 
 -- what a success leaves is well ordered
-
-in-place : (xs : List ℕ) (c : ℕ) → In c xs → (j : ℕ) × (j < length xs) × (getD xs j 0 ≡ c)
-in-place [] c i = absurd i
-in-place (x ∷ xs) c (inl e) = (0, omega arith, sym e)
-in-place (x ∷ xs) c (inr i) = let p = in-place xs c i in (suc (p .0), omega (arith, p .1), p .2)
 
 module _ (l : Lent) (s : Summary) (e : C.outcome l .answer ≡ Renumbered s) where
   abbrev D : Ordered
@@ -226,6 +228,8 @@ module _ (l : Lent) (s : Summary) (e : C.outcome l .answer ≡ Renumbered s) whe
             let image : getD (C.outcome l .nextImages) (p .0) 0 ≡ c = sym (after .holds .nexts (p .0) h) ∙ p .2 in
             let low = after .codesWithin _ _ (after .nextImages (p .0) (omega (arith, h, sizes .agrees .latches))) .0 in
             omega (arith, low, image, top);
+        resetCount = after .holds .latches ∙ sym (after .holds .resetCount);
+        resets = after .resetsPass;
         roots = λ c i.
             let p = in-place (held l s (C.outcome l) .roots) c i in
             let h : p .0 < length (l .roots) = omega (arith, p .1, after .holds .rootCount) in

@@ -13,7 +13,7 @@ use Rattle.circuit.specs.Walk.{Pair, firstCode}
 use Rattle.circuit.specs.Graph.{Gate}
 use Rattle.circuit.specs.Ordered.{Ordered, InOrder}
 use Rattle.circuit.specs.Outcome.{Lent, lentOf}
-use Rattle.circuit.specs.Claims.{AllWithin}
+use Rattle.circuit.specs.Claims.{AllWithin, IsReset, AllReset}
 use Rattle.ordered.specs.declared.Expansion.{Expansion}
 use Rattle.ordered.specs.declared.Expansion.the-variants.{Expanded, TooBig, Misshapen, Short}
 use Rattle.ordered.specs.Expand.{expansionNumber, gateWords, Lists, Outcome, seen, filled, expansion, Lends}
@@ -79,32 +79,44 @@ pub expansions-pinned :
 unfolding expansion firstCode
 expansions-pinned = (refl, refl, refl, refl, refl, refl, refl, refl, refl, refl, refl, refl, refl, refl, refl, refl, refl, refl, refl, refl)
 
--- the circuit of three inputs, next states 8 and 3, those two gates and one output, 14
+-- the circuit of three inputs, next states 8 and 3 with resets 1 and 10, those two gates and one output, 14
 abbrev pair : ℕ → ℕ → Pair
 pair a b = record { larger = a; smaller = b }
 
 abbrev circuit : Ordered
-circuit = record { inputs = 3; nexts = (8 ∷ 3 ∷ []); gates = pair 6 2 ∷ pair 3 9 ∷ []; counts = (1 ∷ 0 ∷ 0 ∷ 0 ∷ 0 ∷ []); roots = (14 ∷ []) }
+circuit =
+    record {
+      inputs = 3;
+      nexts = (8 ∷ 3 ∷ []);
+      resets = (1 ∷ 10 ∷ []);
+      gates = pair 6 2 ∷ pair 3 9 ∷ [];
+      counts = (1 ∷ 0 ∷ 0 ∷ 0 ∷ 0 ∷ []);
+      roots = (14 ∷ []);
+    }
 
 -- what a caller lends of it, with V = 7: the front of each list, whatever stands there
 abbrev lent : Bool → Bool → Bool → Lent
 lent trim hash fold =
     lentOf (record { top = variable 7; counts = (1 ∷ 0 ∷ 0 ∷ 0 ∷ 0 ∷ []); trim = trim; hash = hash; fold = fold }) (21 ∷ 22 ∷ 23 ∷ []) (31 ∷ 32 ∷ []) (8 ∷
-    3 ∷ []) (41 ∷ 42 ∷ 43 ∷ 44 ∷ 45 ∷ 46 ∷ []) (14 ∷ []) (51 ∷ []) (52 ∷ []) (53 ∷ []) (54 ∷ []) (55 ∷ [])
+    3 ∷ []) (1 ∷ 10 ∷ []) (41 ∷ 42 ∷ 43 ∷ 44 ∷ 45 ∷ 46 ∷ []) (14 ∷ []) (51 ∷ []) (52 ∷ []) (56 ∷ []) (53 ∷ []) (54 ∷ []) (55 ∷ [])
 
 pub lends-pinned : (trim hash fold : Bool) → Lends circuit trim hash fold dirty (lent trim hash fold)
-lends-pinned trim hash fold = record { circuit = refl; inputs = refl; states = refl; nexts = refl; gates = refl; roots = refl }
+lends-pinned trim hash fold = record { circuit = refl; inputs = refl; states = refl; nexts = refl; resets = refl; gates = refl; roots = refl }
 
 -- one input, one latch, and one gate, 6, where no code is over 7: its next state, its pair, the number of its outputs, its output
 abbrev single : ℕ → Pair → ℕ → ℕ → Ordered
-single next p count root = record { inputs = 1; nexts = (next ∷ []); gates = p ∷ []; counts = (count ∷ []); roots = (root ∷ []) }
+single next p count root = record { inputs = 1; nexts = (next ∷ []); resets = (4 ∷ []); gates = p ∷ []; counts = (count ∷ []); roots = (root ∷ []) }
+
+-- one input, one latch, 4, and its resets
+abbrev latched : List ℕ → Ordered
+latched resets = record { inputs = 1; nexts = (0 ∷ []); resets = resets; gates = []; counts = []; roots = [] }
 
 -- nothing but inputs, and nothing but outputs
 abbrev wide : ℕ → Ordered
-wide n = record { inputs = n; nexts = []; gates = []; counts = []; roots = [] }
+wide n = record { inputs = n; nexts = []; resets = []; gates = []; counts = []; roots = [] }
 
 abbrev rooted : ℕ → Ordered
-rooted n = record { inputs = 0; nexts = []; gates = []; counts = (n ∷ []); roots = replicate n 1 }
+rooted n = record { inputs = 0; nexts = []; resets = []; gates = []; counts = (n ∷ []); roots = replicate n 1 }
 
 pub well-ordered-pinned :
     -- an input one below its gate's code, and both inputs equal; the gate's own code as an input; the first input below the second
@@ -120,15 +132,38 @@ pub well-ordered-pinned :
     × (WellOrdered (wide 1048576) → ⊥)
     × ((n : ℕ) → n ≤ 1048575 → WellOrdered (rooted n))
     × ((n : ℕ) → 1048575 < n → WellOrdered (rooted n) → ⊥)
+    -- the latch's literal negated, and the input's, as its reset; no reset, and one too many
+    × (WellOrdered (latched (5 ∷ [])) → ⊥)
+    × (WellOrdered (latched (2 ∷ [])) → ⊥)
+    × (WellOrdered (latched []) → ⊥)
+    × (WellOrdered (latched (0 ∷ 0 ∷ [])) → ⊥)
 unfolding firstCode
 well-ordered-pinned = (
-  record { variables = omega arith; few = omega arith; counts = refl; nexts = seven; roots = seven; gates = fives },
+  record {
+    variables = omega arith;
+    few = omega arith;
+    counts = refl;
+    nexts = seven;
+    resetCount = refl;
+    resets = four;
+    roots = seven;
+    gates = fives;
+  },
   λ k. omega (arith, k .gates 0 (omega arith) .1),
   λ k. omega (arith, k .gates 0 (omega arith) .0),
   λ k. omega (arith, k .nexts 8 (inl refl)),
   λ k. omega (arith, k .roots 8 (inl refl)),
   λ k. omega (arith, k .counts),
-  record { variables = omega arith; few = omega arith; counts = refl; nexts = λ c i. absurd i; roots = λ c i. absurd i; gates = no-gates 1048575 },
+  record {
+    variables = omega arith;
+    few = omega arith;
+    counts = refl;
+    nexts = λ c i. absurd i;
+    resetCount = refl;
+    resets = λ j h. absurd (omega arith);
+    roots = λ c i. absurd i;
+    gates = no-gates 1048575;
+  },
   λ k. omega (arith, k .variables),
   λ n h.
       record {
@@ -136,15 +171,30 @@ well-ordered-pinned = (
         few = omega (arith, length-replicate {A = ℕ} n 1);
         counts = omega (arith, length-replicate {A = ℕ} n 1);
         nexts = λ c i. absurd i;
+        resetCount = refl;
+        resets = λ j h. absurd (omega arith);
         roots = ones n;
         gates = no-gates 0;
       },
   λ n h k. omega (arith, k .few, length-replicate {A = ℕ} n 1),
+  λ k. none-of 5 (omega arith) (λ e. omega arith) (k .resets 0 (omega arith)),
+  λ k. none-of 2 (omega arith) (λ e. omega arith) (k .resets 0 (omega arith)),
+  λ k. omega (arith, k .resetCount),
+  λ k. omega (arith, k .resetCount),
 )
   where
     seven : AllWithin 7 (7 ∷ [])
     seven c (inl e) = omega arith
     seven c (inr i) = absurd i
+
+    four : AllReset (4 ∷ []) (4 ∷ [])
+    four zero h = inr (inr refl)
+    four (suc j) h = absurd (omega arith)
+
+    none-of : (r : ℕ) → 1 < r → (r ≡ 4 → ⊥) → IsReset 4 r → ⊥
+    none-of r h n (inl e) = omega arith
+    none-of r h n (inr (inl e)) = omega arith
+    none-of r h n (inr (inr e)) = n e
 
     fives : InOrder 2 (pair 5 5 ∷ [])
     fives zero h = (omega arith, omega arith)

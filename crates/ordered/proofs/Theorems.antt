@@ -13,22 +13,22 @@ use Rattle.lit.specs.declared.Lit.{Lit}
 use Rattle.circuit.specs.Graph.{In, DefinedOnce}
 use Rattle.circuit.specs.Walk.{firstCode}
 use Rattle.circuit.specs.Circuit.{graph}
-use Rattle.circuit.specs.Ordered.{Ordered, sourcesOf, given, InOrder}
+use Rattle.circuit.specs.Ordered.{Ordered, firstLatch, sourcesOf, given, InOrder}
 use Rattle.circuit.specs.declared.Summary.{Summary}
 use Rattle.circuit.specs.declared.Answer.the-variants.{Renumbered}
 use Rattle.circuit.specs.Outcome as C
 use Rattle.circuit.specs.Outcome.{Lent, circuitOf, limit, total, pairWords, held}
-use Rattle.circuit.specs.Claims.{Within, Roomy, Bounded, Passes, AllGrounded, AllWithin, FirstOver}
+use Rattle.circuit.specs.Claims.{Within, Roomy, Bounded, AllReset, Passes, AllGrounded, AllWithin, FirstOver, FirstStray}
 use Rattle.circuit.proofs.Ordered.{countFrom-length}
-use Rattle.ordered.specs.WellOrdered.{variablesOf, WellOrdered}
+use Rattle.ordered.specs.WellOrdered.{variablesOf, latchesOf, WellOrdered}
 use Rattle.ordered.specs.Keeps.{Keeps}
 use Rattle.ordered.proofs.Passing as passing
 use Rattle.ordered.specs.declared.Expansion.the-variants.{Expanded}
 use Rattle.ordered.specs.Expand.{Lists, Outcome, expansion, Lends}
-use Rattle.ordered.specs.declared.given.Fault.the-variants.{TooBig, Misshapen, Over, Disordered, Short}
+use Rattle.ordered.specs.declared.given.Fault.the-variants.{TooBig, Misshapen, Over, Reset, Disordered, Short}
 use Rattle.ordered.specs.declared.given.Checked.{Checked}
 use Rattle.ordered.specs.declared.given.Checked.the-variants.{Fits, Faulty}
-use Rattle.ordered.specs.Check.{Words, circuitIn, wordsOf, codesOf, checked}
+use Rattle.ordered.specs.Check.{Words, circuitIn, wordsOf, codesIn, checked}
 use Rattle.ordered.specs.Given.{Given, limited, Even, FirstLoose, Says}
 use Rattle.ordered.proofs.Exactly as lent
 use Rattle.ordered.proofs.Expansions as expansions
@@ -56,7 +56,7 @@ one-fault-number κs a x y e f p q = p ∙ sym q
 pub one-fault-literal : Determines 0 fault-literal-kinds.ps fault-literal-kinds.r fault-literal-contract.Learnt
 one-fault-literal κs a x y e f p q = p ∙ sym q
 
-pub one-check : Determines 4 check-kinds.ps check-kinds.r check-contract.Learnt
+pub one-check : Determines 5 check-kinds.ps check-kinds.r check-contract.Learnt
 one-check κs a x y e f p q = p ∙ sym q
 
 -- what `check` answers, where w is lent and the code c is asked: an answer is given exactly where what it says is true
@@ -78,13 +78,19 @@ module _ (w : Words) (c : ℕ) where
 
   -- 4: 1 and 2 are passed, and the code named is the first over 2V + 1
   pub over-exactly : (d : Lit) → (checked w c ≡ Faulty (Over d))
-      ↔ (AllWithin limit (limited w) × Even w × FirstOver (2 * variablesOf (circuitIn w) + 1) (codesOf (w .gates) (w .nexts) (w .roots) c) (d .0))
+      ↔ (AllWithin limit (limited w) × Even w × FirstOver (2 * variablesOf (circuitIn w) + 1) (codesIn w c) (d .0))
   over-exactly d = exactly (Faulty (Over d))
 
-  -- 23: 1, 2 and 4 are passed, and the code named is that of the first gate that is not in order
+  -- 22: 1, 2 and 4 are passed, and the reset named is the first that is not 0, 1 or its latch's literal
+  pub reset-exactly : (d : Lit) → (checked w c ≡ Faulty (Reset d))
+      ↔ (AllWithin limit (limited w) × Even w × AllWithin (2 * variablesOf (circuitIn w) + 1) (codesIn w c)
+      × FirstStray (latchesOf (circuitIn w)) (w .resets) (d .0))
+  reset-exactly d = exactly (Faulty (Reset d))
+
+  -- 23: 1, 2, 4 and 22 are passed, and the code named is that of the first gate that is not in order
   pub disordered-exactly : (d : Lit) → (checked w c ≡ Faulty (Disordered d))
-      ↔ (AllWithin limit (limited w) × Even w × AllWithin (2 * variablesOf (circuitIn w) + 1) (codesOf (w .gates) (w .nexts) (w .roots) c)
-      × FirstLoose (firstCode (sourcesOf (circuitIn w))) (circuitIn w .gates) (d .0))
+      ↔ (AllWithin limit (limited w) × Even w × AllWithin (2 * variablesOf (circuitIn w) + 1) (codesIn w c)
+      × AllReset (latchesOf (circuitIn w)) (w .resets) × FirstLoose (firstCode (sourcesOf (circuitIn w))) (circuitIn w .gates) (d .0))
   disordered-exactly d = exactly (Faulty (Disordered d))
 
   -- 3 is a caller's answer
@@ -102,7 +108,7 @@ given-words = lent.given-words
 
 -- and none of its codes is over 2V + 1
 pub given-within : (w : Words) (c : ℕ) → Given w → c ≤ 2 * variablesOf (circuitIn w) + 1
-    → AllWithin (2 * variablesOf (circuitIn w) + 1) (codesOf (w .gates) (w .nexts) (w .roots) c)
+    → AllWithin (2 * variablesOf (circuitIn w) + 1) (codesIn w c)
 given-within = lent.given-within
 
 -- of an ordered circuit whose gates are lent as words, a success leaves the lists of the circuit `given`
@@ -110,13 +116,21 @@ pub expanded-given : (O : Ordered) (lists : Lists) (o : Outcome) → o ≡ expan
     → o .answer ≡ Expanded → (trim hash fold : Bool) (l : Lent) → Lends O trim hash fold (o .lists) l → circuitOf l ≡ given O trim hash fold
 expanded-given = expansions.expanded-given
 
--- a well ordered circuit passes check 1, check 2 but for the words that are lent, and check 4 as it is given, under any flags
+-- a well ordered circuit passes check 1, check 2 but for the words that are lent, and checks 4 and 22 as it is given, under any flags
 pub given-passes : (O : Ordered) → WellOrdered O → (trim hash fold : Bool) → Within (given O trim hash fold) × Bounded (given O trim hash fold)
     × (total (given O trim hash fold .counts) ≡ length (given O trim hash fold .roots))
     × (length (given O trim hash fold .states) ≡ length (given O trim hash fold .nexts))
+    × (length (given O trim hash fold .nexts) ≡ length (given O trim hash fold .resets))
+    × AllReset (given O trim hash fold .states) (given O trim hash fold .resets)
 unfolding given
-given-passes O k trim hash fold =
-    (passing.within O k trim hash fold, passing.bounded O k trim hash fold, k .counts, countFrom-length (2 + 2 * O .inputs) (length (O .nexts)))
+given-passes O k trim hash fold = (
+  passing.within O k trim hash fold,
+  passing.bounded O k trim hash fold,
+  k .counts,
+  countFrom-length (firstLatch (O .inputs)) (length (O .nexts)),
+  k .resetCount,
+  k .resets,
+)
 
 -- and under any flags it defines no variable twice, and all that is walked of it is grounded
 pub given-grounded : (O : Ordered) → WellOrdered O → (trim hash fold : Bool)
@@ -132,11 +146,11 @@ module _ (O : Ordered) (ordered : WellOrdered O) (trim hash fold : Bool) (lists 
     (left : o ≡ expansion (O .inputs) (length (O .nexts)) (pairWords (O .gates)) lists) (filled : o .answer ≡ Expanded) (l : Lent)
     (lends : Lends O trim hash fold (o .lists) l) where
   -- lists to be written that are long enough for the ordered circuit are long enough for what is lent
-  pub long-enough : variablesOf O + 1 ≤ length (l .map) → length (O .nexts) ≤ length (l .nextImages) → length (O .roots) ≤ length (l .rootImages)
-      → 2 * length (O .gates) ≤ length (l .gatesOut) → 3 * variablesOf O + 3 + 3 * length (O .gates) ≤ length (l .scratch) → Roomy l (circuitOf l)
+  pub long-enough : variablesOf O + 1 ≤ length (l .map) → length (O .nexts) ≤ length (l .nextImages) → length (O .nexts) ≤ length (l .resetImages)
+      → length (O .roots) ≤ length (l .rootImages) → 2 * length (O .gates) ≤ length (l .gatesOut) → 3 * variablesOf O + 3 + 3 * length (O .gates) ≤ length (l .scratch) → Roomy l (circuitOf l)
   long-enough = passing.roomy O ordered trim hash fold lists o left filled l lends
 
-  -- lent with lists that are long enough to be written, it passes checks 1 to 4
+  -- lent with lists that are long enough to be written, it passes checks 1 to 4 and 22
   pub lent-passes : Roomy l (circuitOf l) → Passes l
   lent-passes = passing.passes O ordered trim hash fold lists o left filled l lends
 
@@ -148,7 +162,7 @@ module _ (O : Ordered) (ordered : WellOrdered O) (trim hash fold : Bool) (lists 
   pub no-more-gates : (r : C.Outcome) → r ≡ C.outcome l → (s : Summary) → r .answer ≡ Renumbered s → length (held l s r .gates) ≤ length (O .gates)
   no-more-gates = passing.no-more O ordered trim hash fold lists o left filled l lends
 
-  -- where renumbering succeeds, its next states and roots keep their values
+  -- where renumbering succeeds, its next states and roots keep their values, and its latches their first values
   pub values-kept : (r : C.Outcome) → r ≡ C.outcome l → (s : Summary) → r .answer ≡ Renumbered s → Keeps O (held l s r)
   values-kept = passing.keeps O ordered trim hash fold lists o left filled l lends
 

@@ -55,21 +55,23 @@ pub one-delta-after : Determines 1 delta-after-kinds.ps delta-after-kinds.r delt
 one-delta-after κs a x y e f p q = p ∙ sym q
 
 pub one-renumber-two :
-    DeterminesCells 10 renumber-two-kinds.ps renumber-two-kinds.r renumber-two-promise.Learnt
-    {A = List ℕ × List ℕ × List ℕ × List ℕ × List ℕ × List ℕ}
+    DeterminesCells 12 renumber-two-kinds.ps renumber-two-kinds.r renumber-two-promise.Learnt
+    {A = List ℕ × List ℕ × List ℕ × List ℕ × List ℕ × List ℕ × List ℕ}
     (λ κs e. (
-      now (e .1 .1 .1 .1 .1 .1 .0),
       now (e .1 .1 .1 .1 .1 .1 .1 .0),
       now (e .1 .1 .1 .1 .1 .1 .1 .1 .0),
       now (e .1 .1 .1 .1 .1 .1 .1 .1 .1 .0),
       now (e .1 .1 .1 .1 .1 .1 .1 .1 .1 .1 .0),
       now (e .1 .1 .1 .1 .1 .1 .1 .1 .1 .1 .1 .0),
+      now (e .1 .1 .1 .1 .1 .1 .1 .1 .1 .1 .1 .1 .0),
+      now (e .1 .1 .1 .1 .1 .1 .1 .1 .1 .1 .1 .1 .1 .0),
     ))
 one-renumber-two κs a x y e f p q = (
   ap (λ (o : FlatOutcome). o .outcome .answer) (p ∙ sym q),
   ap (λ (o : FlatOutcome). (
     o .outcome .map,
     o .outcome .nextImages,
+    o .outcome .resetImages,
     o .outcome .rootImages,
     o .outcome .gatesOut,
     o .outcome .scratch,

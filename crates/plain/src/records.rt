@@ -12,10 +12,12 @@ pub fn renumber_two(
     inputs: &[u32],
     states: &[u32],
     nexts: &[u32],
+    resets: &[u32],
     gates: [GateRecord; 2],
     roots: &[u32],
     map: &mut [u32],
     next_images: &mut [u32],
+    reset_images: &mut [u32],
     root_images: &mut [u32],
     gates_out: &mut [u32],
     scratch: &mut [u32],
@@ -25,6 +27,7 @@ pub fn renumber_two(
       answer = r;
       map = now (map .exit);
       nextImages = now («next_images» .exit);
+      resetImages = now («reset_images» .exit);
       rootImages = now («root_images» .exit);
       gatesOut = now («gates_out» .exit);
       scratch = now (scratch .exit);
@@ -33,10 +36,12 @@ pub fn renumber_two(
       inputs = now (inputs .entry);
       states = now (states .entry);
       nexts = now (nexts .entry);
+      resets = now (resets .entry);
       gates = flatOf gates;
       roots = now (roots .entry);
       map = now (map .entry);
       nextImages = now («next_images» .entry);
+      resetImages = now («reset_images» .entry);
       rootImages = now («root_images» .entry);
       gatesOut = now («gates_out» .entry);
       scratch = now (scratch .entry);
@@ -47,10 +52,12 @@ pub fn renumber_two(
         inputs,
         states,
         nexts,
+        resets,
         &gates,
         roots,
         map,
         next_images,
+        reset_images,
         root_images,
         gates_out,
         scratch,

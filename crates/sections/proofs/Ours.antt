@@ -1,6 +1,6 @@
--- A spelling is ours or longer than ours. Lines, counts and roots have one spelling each. What may be longer is a latch line with a reset field, and a
+-- A spelling is ours or longer than ours. Lines, counts and roots have one spelling each. What may be longer is a latch line with a reset of 0, and a
 -- header with a zero past the last optional count that is not. Assumes nothing.
-use Prim.Native.Nat.{ℕ, zero, suc, _+_, _-_, _≤_, _<_}
+use Prim.Native.Nat.{ℕ, zero, suc, _+_, _-_, _*_, _≤_, _<_}
 use mathlib.Core.Path.{_≡_, refl, sym, ap, _∙_, subst}
 use mathlib.Core.Bool.{Bool, true, false, cond}
 use mathlib.Core.Logic.{inl, inr, _↔_}
@@ -9,12 +9,15 @@ use native.Mathlib.Omega.{arith}
 use lib.Dec.{eqb}
 use lib.ListN.{length, getD, take, drop, length-append}
 use lib.Seq.{drop-drop, take-at, drop-at}
+use borrow.Author.Tests.{eq-eqb, ne-eqb, eqb-true, eqb-false}
 use Rattle.token.specs.Format.{digitsOf}
 use Rattle.lines.specs.declared.Header.{Header}
+use Rattle.lines.specs.Lines.{LatchLine, latchLine, nextsOf, resetsOf}
 use Rattle.lines.specs.Sections.{Roots, rootsOf, headerOf, firstRoots}
 use Rattle.lines.specs.Spelling.{Both, Nothing, Row, Byte, Line, Lines, Reset, Latch, Latches, Count, Options, HeaderCounts, Rooting}
 use Rattle.sections.specs.Bytes.{rowBytes, lineBytes, linesBytes, countBytes, countsBytes, keptBefore, upToLast, afterTag, rootsBytes}
-use Rattle.sections.specs.Claims.{Least, Second, NoResets, spelledOptions}
+use Rattle.sections.specs.Bytes.{resetBytes, latchBytes, latchesBytes}
+use Rattle.sections.specs.Claims.{Least, Needed, ResetsNeeded, spelledOptions}
 
 -- ours exactly where P holds, else longer
 
@@ -82,41 +85,69 @@ lines-only most n vs w (count, row) = row-only (Line most) lineBytes (λ v x t. 
 
 -- latch lines
 
-latch-told : (most v : ℕ) (x : List ℕ) (t : Latch most v x) → Told (Second (t .second .first)) (lineBytes v) x
-unfolding lineBytes
-latch-told most v x t = go (t .second .first)
+-- our line of a latch, without a reset field and with one
+ours-bare : (next reset : ℕ) → reset ≡ 0 → latchBytes next reset ≡ digitsOf next ++ (10 ∷ [])
+unfolding latchBytes resetBytes
+ours-bare next reset e = rw (eq-eqb reset 0 e)
+
+ours-field : (next reset : ℕ) → (reset ≡ 0 → ⊥) → latchBytes next reset ≡ digitsOf next ++ (32 ∷ (digitsOf reset ++ (10 ∷ [])))
+unfolding latchBytes resetBytes
+ours-field next reset n = rw (ne-eqb reset 0 n)
+
+latch-told : (most own : ℕ) (l : LatchLine) (x : List ℕ) (t : Latch most own l x)
+    → Told (Needed (l .reset) (t .second .first)) (latchBytes (l .next) (l .reset)) x
+latch-told most own l x t = go (t .second .first)
   where
-    u : Both (Reset most) (λ reset. Nothing (t .middle)) v (t .back)
+    u : Both (Reset most own) (λ r. Nothing (latchLine (t .middle) r)) l (t .back)
     u = t .second
 
-    next : t .middle ≡ v
-    next = sym (u .second .0)
+    next : t .middle ≡ l .next
+    next = sym (ap (λ (k : LatchLine). k .next) (u .second .0))
+
+    reset : u .middle ≡ l .reset
+    reset = sym (ap (λ (k : LatchLine). k .reset) (u .second .0))
 
     -- the digits of the next state, and the rest of the line
-    line : x ≡ digitsOf v ++ u .front
+    line : x ≡ digitsOf (l .next) ++ u .front
     line =
-        t .joined ∙ ap (λ (l : List ℕ). l ++ t .back) (t .first .2 ∙ ap digitsOf next)
-        ∙ ap (λ (l : List ℕ). digitsOf v ++ l) (u .joined ∙ ap (λ (l : List ℕ). u .front ++ l) (u .second .1) ∙ append-nil (u .front))
+        t .joined ∙ ap (λ (k : List ℕ). k ++ t .back) (t .first .2 ∙ ap digitsOf next)
+        ∙ ap (λ (k : List ℕ). digitsOf (l .next) ++ k) (u .joined ∙ ap (λ (k : List ℕ). u .front ++ k) (u .second .1) ∙ append-nil (u .front))
 
-    go : (s : Reset most (u .middle) (u .front)) → Told (Second s) (digitsOf v ++ (10 ∷ [])) x
+    -- a field that is there
+    field : (t : Bool) → eqb (l .reset) 0 ≡ t → u .front ≡ 32 ∷ (digitsOf (l .reset) ++ (10 ∷ [])) → Told (l .reset ≡ 0 → ⊥) (latchBytes (l .next) (l .reset)) x
+    field true e f =
+        let none : l .reset ≡ 0 = eqb-true (l .reset) 0 e in
+        let ours = ap length (ours-bare (l .next) (l .reset) none) ∙ length-append (digitsOf (l .next)) (10 ∷ []) in
+        let theirs = ap length line ∙ length-append (digitsOf (l .next)) (u .front) in
+        let long = ap length f in
+        let more = length-append (digitsOf (l .reset)) (10 ∷ []) in
+        longer (λ some. some none) (omega arith)
+    field false e f =
+        let some : l .reset ≡ 0 → ⊥ = eqb-false (l .reset) 0 e in
+        same some (line ∙ ap (λ (k : List ℕ). digitsOf (l .next) ++ k) f ∙ sym (ours-field (l .next) (l .reset) some))
+
+    go : (s : Reset most own (u .middle) (u .front)) → Told (Needed (l .reset) s) (latchBytes (l .next) (l .reset)) x
     go (inl f) =
-        let space = ap length (f .joined ∙ ap (λ (l : List ℕ). l ++ f .back) (f .first)) in
-        let field = ap length (f .second .2) ∙ length-append (digitsOf (u .middle)) (10 ∷ []) in
-        longer (λ none. none) (omega (arith, ap length line, length-append (digitsOf v) (u .front), length-append (digitsOf v) (10 ∷ [])))
+        field (eqb (l .reset) 0) refl
+        (f .joined ∙ ap (λ (k : List ℕ). k ++ f .back) (f .first) ∙ ap (λ (k : List ℕ). 32 ∷ k) (f .second .1 .2)
+        ∙ ap (λ (r : ℕ). 32 ∷ (digitsOf r ++ (10 ∷ []))) reset)
     go (inr f) =
-        let end : u .front ≡ 10 ∷ [] = f .joined ∙ ap (λ (l : List ℕ). l ++ f .back) (f .first) ∙ ap (λ (l : List ℕ). 10 ∷ l) (f .second .1) in
-        same tt (line ∙ ap (λ (l : List ℕ). digitsOf v ++ l) end)
+        let end : u .front ≡ 10 ∷ [] = f .joined ∙ ap (λ (k : List ℕ). k ++ f .back) (f .first) ∙ ap (λ (k : List ℕ). 10 ∷ k) (f .second .1) in
+        let none : l .reset ≡ 0 = sym reset ∙ f .second .0 in
+        same tt (line ∙ ap (λ (k : List ℕ). digitsOf (l .next) ++ k) end ∙ sym (ours-bare (l .next) (l .reset) none))
 
-latches-told : (most k : ℕ) (vs w : List ℕ) (t : Row (λ _. Latch most) k vs w) → Told (NoResets most vs k w t) (linesBytes vs) w
-latches-told most k [] w e = same tt e
-latches-told most k (v ∷ vs) w (x, y, t, u, e) =
-    told-of refl e (told-both (latch-told most v x t) (latches-told most (suc k) vs y u))
+latches-told : (most first k : ℕ) (ls : List LatchLine) (w : List ℕ) (t : Row (λ j. Latch most (first + 2 * j)) k ls w)
+    → Told (ResetsNeeded most first ls k w t) (latchesBytes (nextsOf ls) (resetsOf ls)) w
+latches-told most first k [] w e = same tt e
+latches-told most first k (l ∷ ls) w (x, y, t, u, e) =
+    told-of refl e (told-both (latch-told most (first + 2 * k) l x t) (latches-told most first (suc k) ls y u))
 
-pub latches-least : (most n : ℕ) (vs w : List ℕ) → Latches most n vs w → Least (linesBytes vs) w
-latches-least most n vs w (count, row) = told-least (latches-told most 0 vs w row)
+pub latches-least : (most first n : ℕ) (ls : List LatchLine) (w : List ℕ) → Latches most first n ls w → Least (latchesBytes (nextsOf ls) (resetsOf ls)) w
+latches-least most first n ls w t = told-least (latches-told most first 0 ls w (t .1))
 
-pub latches-exactly : (most n : ℕ) (vs w : List ℕ) (t : Latches most n vs w) → (w ≡ linesBytes vs) ↔ NoResets most vs 0 w (t .1)
-latches-exactly most n vs w (count, row) = told-exactly (latches-told most 0 vs w row)
+pub latches-exactly : (most first n : ℕ) (ls : List LatchLine) (w : List ℕ) (t : Latches most first n ls w)
+    → (w ≡ latchesBytes (nextsOf ls) (resetsOf ls)) ↔ ResetsNeeded most first ls 0 w (t .1)
+latches-exactly most first n ls w t = told-exactly (latches-told most first 0 ls w (t .1))
 
 -- counts
 

@@ -1,4 +1,5 @@
--- The parts of which a section is put: a row's next one, the counts up to the last that is not zero, the roots of each kind. Assumes nothing.
+-- The parts of which a section is put: a row's next one, the next latch line, the counts up to the last that is not zero, the roots of each
+-- kind. Assumes nothing.
 use Prim.Native.Nat.{ℕ, _+_, _-_, _≤_, _<_, min}
 use mathlib.Core.Path.{_≡_, refl, sym, ap, _∙_}
 use mathlib.Core.Bool.{Bool, true, false, cond}
@@ -6,15 +7,16 @@ use mathlib.Core.List.{List, [], _∷_, _++_}
 use native.Mathlib.Numerals.{add-one}
 use native.Mathlib.Omega.{arith, min-cases}
 use lib.Dec.{eqb}
-use lib.ListN.{length, getD, take, drop, length-take, length-drop, drop-of-length-le}
+use lib.ListN.{length, getD, take, drop, length-append, length-take, length-drop, drop-of-length-le}
 use lib.Seq.{drop-cons, take-all, take-append-add}
 use borrow.Author.Tests.{eq-eqb, ne-eqb}
+use Rattle.token.specs.Format.{digitsOf}
 use Rattle.place.specs.Place.{last, further}
 use Rattle.text.specs.Put.{putAll}
 use Rattle.text.proofs.Puts.{Onward, onward-all, onward, onward-none}
 use Rattle.lines.specs.declared.Header.{Header}
 use Rattle.lines.specs.Sections.{Roots, firstRoots}
-use Rattle.sections.specs.Bytes.{rowBytes, linesBytes, keptBefore, upToLast, optional, countsOf, rootsBytes}
+use Rattle.sections.specs.Bytes.{rowBytes, linesBytes, resetBytes, latchBytes, latchesBytes, keptBefore, upToLast, optional, countsOf, rootsBytes}
 
 -- a row from a place on: its next one and the rest, or nothing at its end
 
@@ -47,6 +49,70 @@ module _ {each : ℕ → List ℕ} {out₀ : List ℕ} {at : ℕ} {vs out : List
 
   pub rowing-all : length vs ≤ i → (out ≡ putAll out₀ at (rowBytes each vs)) × (place ≡ further at (length (rowBytes each vs)))
   rowing-all end = onward-none (p .left) (row-end each vs i end) (p .there)
+
+-- a reset, by whether it is 0
+
+pub reset-some : (r : ℕ) → 0 < r → resetBytes r ≡ 32 ∷ digitsOf r
+unfolding resetBytes
+reset-some r h = rw (ne-eqb r 0 (omega arith))
+
+pub reset-none : (r : ℕ) → r ≤ 0 → resetBytes r ≡ []
+unfolding resetBytes
+reset-none r h = rw (eq-eqb r 0 (omega arith))
+
+-- latch lines from a place on: the next one and the rest, or nothing where a list ends
+
+latches-next : (ns rs : List ℕ) (i : ℕ) → i < length ns → i < length rs
+    → latchesBytes (drop i ns) (drop i rs) ≡ latchBytes (getD ns i 0) (getD rs i 0) ++ latchesBytes (drop (i + 1) ns) (drop (i + 1) rs)
+latches-next ns rs i there here =
+    let n : drop i ns ≡ getD ns i 0 ∷ drop (i + 1) ns = drop-cons ns i 0 there ∙ ap (λ (k : ℕ). getD ns i 0 ∷ drop k ns) (sym (add-one i)) in
+    let r : drop i rs ≡ getD rs i 0 ∷ drop (i + 1) rs = drop-cons rs i 0 here ∙ ap (λ (k : ℕ). getD rs i 0 ∷ drop k rs) (sym (add-one i)) in
+    ap (λ (l : List ℕ). latchesBytes l (drop i rs)) n ∙ ap (latchesBytes (getD ns i 0 ∷ drop (i + 1) ns)) r
+
+no-resets : (ns : List ℕ) → latchesBytes ns [] ≡ []
+no-resets [] = refl
+no-resets (n ∷ ns) = refl
+
+latches-end : (ns rs : List ℕ) (i : ℕ) → min (length ns) (length rs) ≤ i → latchesBytes (drop i ns) (drop i rs) ≡ []
+latches-end ns rs i end =
+    min-cases (length ns) (length rs) _
+    (λ _ e. ap (λ (l : List ℕ). latchesBytes l (drop i rs)) (drop-of-length-le ns {i = i} (omega arith)))
+    (λ _ e. ap (latchesBytes (drop i ns)) (drop-of-length-le rs {i = i} (omega arith)) ∙ no-resets (drop i ns))
+
+-- latch lines are put from a place on: the first i are put, and the next one goes to `place`
+pub record Latching (out₀ : List ℕ) (at : ℕ) (ns rs out : List ℕ) (i place : ℕ) : Type 0 where
+  pub inside : i ≤ min (length ns) (length rs)
+  pub there : place ≤ last
+  pub left : Onward out₀ at (latchesBytes ns rs) out place (latchesBytes (drop i ns) (drop i rs))
+
+pub latching-none : (out : List ℕ) (at : ℕ) (ns rs : List ℕ) → at ≤ last → Latching out at ns rs out 0 at
+latching-none out at ns rs h = record { inside = omega arith; there = h; left = onward-all out at (latchesBytes ns rs) }
+
+module _ {out₀ : List ℕ} {at : ℕ} {ns rs out : List ℕ} {i place : ℕ} (p : Latching out₀ at ns rs out i place) where
+  pub latching-more : (out′ : List ℕ) (place′ : ℕ) → i < min (length ns) (length rs) → length out₀ ≤ last
+      → (out′ ≡ putAll out place (latchBytes (getD ns i 0) (getD rs i 0))) × (place′ ≡ further place (length (latchBytes (getD ns i 0) (getD rs i 0))))
+      → Latching out₀ at ns rs out′ (i + 1) place′
+  latching-more out′ place′ there short put =
+      record {
+        inside = omega arith;
+        there = omega (arith, put .1);
+        left =
+            onward (p .left) (latchBytes (getD ns i 0) (getD rs i 0)) (latchesBytes (drop (i + 1) ns) (drop (i + 1) rs))
+            (latches-next ns rs i (omega arith) (omega arith)) out′ place′ short (put .0) (put .1);
+      }
+
+  pub latching-all : min (length ns) (length rs) ≤ i → (out ≡ putAll out₀ at (latchesBytes ns rs)) × (place ≡ further at (length (latchesBytes ns rs)))
+  latching-all end = onward-none (p .left) (latches-end ns rs i end) (p .there)
+
+-- a latch's line has at most the digits of its next state, a space, the digits of its reset, a newline
+pub latch-most : (next reset : ℕ) → length (latchBytes next reset) ≤ length (digitsOf next) + length (digitsOf reset) + 2
+unfolding latchBytes resetBytes
+latch-most next reset = go (eqb reset 0)
+  where
+    go : (t : Bool) → length (digitsOf next ++ (cond t [] (32 ∷ digitsOf reset) ++ (10 ∷ []))) ≤ length (digitsOf next) + length (digitsOf reset) + 2
+    go true = omega (arith, length-append (digitsOf next) (10 ∷ []))
+    go false =
+        omega (arith, length-append (digitsOf next) (32 ∷ (digitsOf reset ++ (10 ∷ []))), length-append (digitsOf reset) (10 ∷ []))
 
 -- what is kept of counts is their front
 

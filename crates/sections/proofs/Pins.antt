@@ -5,12 +5,14 @@ use mathlib.Core.Path.{_≡_, refl}
 use mathlib.Core.List.{[], _∷_, map}
 use Rattle.token.specs.Format.{digitsOf}
 use Rattle.lines.specs.declared.Header.{Header}
-use Rattle.lines.specs.Lines.{tagOf}
+use Rattle.lines.specs.Lines.{tagOf, latchLine}
 use Rattle.lines.specs.Sections.{rootsOf}
 use Rattle.sections.specs.Bytes.{rowBytes, lineBytes, linesBytes, countBytes, countsBytes, keptBefore, upToLast}
+use Rattle.sections.specs.Bytes.{resetBytes, latchBytes, latchesBytes}
 use Rattle.sections.specs.Bytes.{optional, countsOf, afterTag, headerBytes, rootsBytes}
+use Rattle.sections.specs.Claims.{latchLinesOf}
 
--- 1. Lines and counts.
+-- 1. Lines, counts, latch lines.
 
 pub rows-pinned :
     -- each by its own bytes, in the order of the list; none
@@ -28,6 +30,28 @@ pub rows-pinned :
     × (countsBytes [] ≡ [])
 unfolding digitsOf lineBytes countBytes
 rows-pinned = (refl, refl, refl, refl, refl, refl, refl, refl, refl, refl)
+
+pub latches-pinned :
+    -- a reset: none for 0; the others behind a space
+    (resetBytes 0 ≡ [])
+    × (resetBytes 1 ≡ (32 ∷ 49 ∷ []))
+    × (resetBytes 42 ≡ (32 ∷ 52 ∷ 50 ∷ []))
+    -- 12\n, 0\n, 12 1\n, 2 10\n
+    × (latchBytes 12 0 ≡ (49 ∷ 50 ∷ 10 ∷ []))
+    × (latchBytes 0 0 ≡ (48 ∷ 10 ∷ []))
+    × (latchBytes 12 1 ≡ (49 ∷ 50 ∷ 32 ∷ 49 ∷ 10 ∷ []))
+    × (latchBytes 2 10 ≡ (50 ∷ 32 ∷ 49 ∷ 48 ∷ 10 ∷ []))
+    -- 12\n3 1\n, each next state with its reset, as long as both lists last; no line
+    × (latchesBytes (12 ∷ 3 ∷ []) (0 ∷ 1 ∷ []) ≡ (49 ∷ 50 ∷ 10 ∷ 51 ∷ 32 ∷ 49 ∷ 10 ∷ []))
+    × (latchesBytes (12 ∷ 3 ∷ []) (0 ∷ []) ≡ (49 ∷ 50 ∷ 10 ∷ []))
+    × (latchesBytes (12 ∷ []) (0 ∷ 1 ∷ []) ≡ (49 ∷ 50 ∷ 10 ∷ []))
+    × (latchesBytes [] [] ≡ [])
+    -- the same as lines
+    × (latchLinesOf (12 ∷ 3 ∷ []) (0 ∷ 1 ∷ []) ≡ (latchLine 12 0 ∷ latchLine 3 1 ∷ []))
+    × (latchLinesOf (12 ∷ 3 ∷ []) (5 ∷ []) ≡ (latchLine 12 5 ∷ []))
+    × (latchLinesOf (12 ∷ []) (5 ∷ 1 ∷ []) ≡ (latchLine 12 5 ∷ []))
+unfolding digitsOf resetBytes latchBytes
+latches-pinned = (refl, refl, refl, refl, refl, refl, refl, refl, refl, refl, refl, refl, refl, refl)
 
 -- 2. Counts up to the last that is not zero.
 

@@ -1,26 +1,32 @@
--- What is written spells what it is of: lines, latch lines without resets, the header, the root section. Each part is put together as the format says.
+-- What is written spells what it is of: lines, latch lines, the header, the root section. Each part is put together as the format says.
 -- Assumes nothing.
-use Prim.Native.Nat.{ℕ, zero, suc, _+_, _-_, _^_, _≤_, _<_}
+use Prim.Native.Nat.{ℕ, zero, suc, _+_, _-_, _*_, _^_, _≤_, _<_}
 use mathlib.Core.Path.{_≡_, refl, sym, ap, _∙_, subst}
 use mathlib.Core.Bool.{Bool, true, false, cond}
 use mathlib.Core.Logic.{inl, inr}
+use mathlib.Core.Option.{none, some}
 use mathlib.Core.List.{List, [], _∷_, _++_, append-nil, append-assoc}
 use native.Mathlib.Omega.{arith}
 use lib.Dec.{eqb}
-use lib.ListN.{length, getD, take, drop, length-drop, take-append-drop}
+use lib.ListN.{length, getD, take, drop, length-drop, length-map, take-append-drop}
 use lib.Seq.{length-take-le, drop-drop}
 use borrow.Author.Tests.{eqb-true}
 use Rattle.token.specs.Format.{digitsOf}
 use Rattle.circuit.specs.Graph.{In}
+use Rattle.circuit.specs.Circuit.{isReset, firstStray}
+use Rattle.circuit.specs.Ordered.{countFrom}
 use Rattle.circuit.specs.Outcome.{limit, total}
-use Rattle.circuit.specs.Claims.{AllWithin}
+use Rattle.circuit.specs.Claims.{AllWithin, IsReset}
+use Rattle.circuit.proofs.Checks.{is-reset}
 use Rattle.circuit.proofs.Lists.{In-left, In-right}
 use Rattle.lines.specs.declared.Header.{Header}
 use Rattle.lines.specs.Limits.{Within}
+use Rattle.lines.specs.Lines.{LatchLine, latchLine, nextsOf, resetsOf}
 use Rattle.lines.specs.Sections.{Roots, rootsOf, headerOf, firstRoots, rootCount}
 use Rattle.lines.specs.Spelling.{Both, Nothing, Row, Line, Lines, Reset, Latch, Latches, Count, Options, HeaderCounts, Properties, Sizes, Rooting}
 use Rattle.sections.specs.Bytes.{rowBytes, lineBytes, linesBytes, countBytes, countsBytes, keptBefore, upToLast, optional, afterTag, rootsBytes}
-use Rattle.sections.specs.Claims.{Fit}
+use Rattle.sections.specs.Bytes.{resetBytes, latchBytes, latchesBytes}
+use Rattle.sections.specs.Claims.{Fit, latchLinesOf}
 use Rattle.sections.proofs.Parts.{up-to-last-front, kept-few}
 
 within-fit : (most : ℕ) (vs : List ℕ) → most < 2 ^ 64 → AllWithin most vs → Fit vs
@@ -44,20 +50,87 @@ row-spelled Thing each [] spells k = refl
 row-spelled Thing each (v ∷ vs) spells k =
     (each v, rowBytes each vs, spells v (inl refl), row-spelled Thing each vs (λ u i. spells u (inr i)) (suc k), refl)
 
--- lines, and latch lines
+-- lines
 
 pub lines-spelled : (most : ℕ) (vs : List ℕ) → AllWithin most vs → Fit vs → Lines most (length vs) vs (linesBytes vs)
 unfolding lineBytes
 lines-spelled most vs within fit = (refl, row-spelled (Line most) lineBytes vs (λ v i. (within v i, fit v i, refl)) 0)
 
-latch-spelled : (most v : ℕ) → v ≤ most → v < 2 ^ 64 → Latch most v (lineBytes v)
-unfolding lineBytes
-latch-spelled most v within fits =
-    let newline : Reset most 0 (10 ∷ []) = inr (at-last (λ _. 0) tt refl refl) in
-    in-a-row v (digitsOf v) (10 ∷ []) (within, fits, refl) (at-last (λ _. v) 0 newline refl)
+-- latch lines
 
-pub latches-spelled : (most : ℕ) (vs : List ℕ) → AllWithin most vs → Fit vs → Latches most (length vs) vs (linesBytes vs)
-latches-spelled most vs within fit = (refl, row-spelled (Latch most) lineBytes vs (λ v i. latch-spelled most v (within v i) (fit v i)) 0)
+reset-spelled : (most own r : ℕ) → r ≤ most → r < 2 ^ 64 → IsReset own r → Reset most own r (resetBytes r ++ (10 ∷ []))
+unfolding resetBytes
+reset-spelled most own r within fits may = go (eqb r 0) refl
+  where
+    go : (t : Bool) → eqb r 0 ≡ t → Reset most own r (cond t [] (32 ∷ digitsOf r) ++ (10 ∷ []))
+    go true e = inr (at-last (λ _. 0) tt refl (eqb-true r 0 e))
+    go false e = inl (in-a-row tt (32 ∷ []) (digitsOf r ++ (10 ∷ [])) refl (may, (within, fits, refl)))
+
+latch-spelled : (most own : ℕ) (l : LatchLine) → l .next ≤ most → l .reset ≤ most → most < 2 ^ 64 → IsReset own (l .reset)
+    → Latch most own l (latchBytes (l .next) (l .reset))
+unfolding latchBytes
+latch-spelled most own l low small fits may =
+    in-a-row (l .next) (digitsOf (l .next)) (resetBytes (l .reset) ++ (10 ∷ [])) (low, omega arith, refl)
+    (at-last (latchLine (l .next)) (l .reset) (reset-spelled most own (l .reset) small (omega arith) may) refl)
+
+-- where no reset of a list is a stray, the first is none, and the others are not
+passes : (own r : ℕ) (owns rs : List ℕ) → firstStray (own ∷ owns) (r ∷ rs) ≡ none → (isReset own r ≡ true) × (firstStray owns rs ≡ none)
+passes own r owns rs e = go (isReset own r) e
+  where
+    go : (t : Bool) → cond t (firstStray owns rs) (some r) ≡ none → (t ≡ true) × (firstStray owns rs ≡ none)
+    go true f = (refl, f)
+    go false f = absurd (let z : _≡_ {A = ℕ} 0 1 = cc in omega arith)
+
+latches-row : (most first k : ℕ) (ls : List LatchLine) → AllWithin most (nextsOf ls) → AllWithin most (resetsOf ls) → most < 2 ^ 64
+    → firstStray (countFrom (first + 2 * k) (length ls)) (resetsOf ls) ≡ none
+    → Row (λ j. Latch most (first + 2 * j)) k ls (latchesBytes (nextsOf ls) (resetsOf ls))
+latches-row most first k [] low small fits pass = refl
+latches-row most first k (l ∷ ls) low small fits pass =
+    let own : ℕ = first + 2 * k in
+    let p = passes own (l .reset) (countFrom (own + 2) (length ls)) (resetsOf ls) pass in
+    let later : first + 2 * suc k ≡ own + 2 = omega arith in
+    let rest = ap (λ (c : ℕ). firstStray (countFrom c (length ls)) (resetsOf ls)) later ∙ p .1 in (
+      latchBytes (l .next) (l .reset),
+      latchesBytes (nextsOf ls) (resetsOf ls),
+      latch-spelled most own l (low (l .next) (inl refl)) (small (l .reset) (inl refl)) fits (is-reset own (l .reset) .0 (p .0)),
+      latches-row most first (suc k) ls (λ v i. low v (inr i)) (λ v i. small v (inr i)) fits rest,
+      refl,
+    )
+
+pub latches-spelled : (most first : ℕ) (ls : List LatchLine) → AllWithin most (nextsOf ls) → AllWithin most (resetsOf ls) → most < 2 ^ 64
+    → firstStray (countFrom first (length ls)) (resetsOf ls) ≡ none
+    → Latches most first (length ls) ls (latchesBytes (nextsOf ls) (resetsOf ls))
+latches-spelled most first ls low small fits pass =
+    let zeroth : first + 2 * 0 ≡ first = omega arith in
+    (refl, latches-row most first 0 ls low small fits (ap (λ (c : ℕ). firstStray (countFrom c (length ls)) (resetsOf ls)) zeroth ∙ pass))
+
+-- next states and resets as lines, and back
+
+pub nexts-back : (ns rs : List ℕ) → length rs ≡ length ns → nextsOf (latchLinesOf ns rs) ≡ ns
+nexts-back [] rs e = refl
+nexts-back (n ∷ ns) [] e = absurd (omega arith)
+nexts-back (n ∷ ns) (r ∷ rs) e = ap (λ (l : List ℕ). n ∷ l) (nexts-back ns rs (omega arith))
+
+pub resets-back : (ns rs : List ℕ) → length rs ≡ length ns → resetsOf (latchLinesOf ns rs) ≡ rs
+resets-back [] [] e = refl
+resets-back [] (r ∷ rs) e = absurd (omega arith)
+resets-back (n ∷ ns) [] e = absurd (omega arith)
+resets-back (n ∷ ns) (r ∷ rs) e = ap (λ (l : List ℕ). r ∷ l) (resets-back ns rs (omega arith))
+
+-- lists as long as each other, as a caller has them
+pub lists-spelled : (most first : ℕ) (ns rs : List ℕ) → length rs ≡ length ns → AllWithin most ns → AllWithin most rs → most < 2 ^ 64
+    → firstStray (countFrom first (length ns)) rs ≡ none
+    → Latches most first (length ns) (latchLinesOf ns rs) (latchesBytes ns rs)
+lists-spelled most first ns rs e low small fits pass =
+    let ls : List LatchLine = latchLinesOf ns rs in
+    let a : nextsOf ls ≡ ns = nexts-back ns rs e in
+    let b : resetsOf ls ≡ rs = resets-back ns rs e in
+    let n : length ls ≡ length ns = sym (length-map ls (λ l. l .next)) ∙ ap length a in
+    let all = latches-spelled most first ls (subst (AllWithin most) (sym a) low) (subst (AllWithin most) (sym b) small) fits
+    (ap (λ (k : ℕ). firstStray (countFrom first k) (resetsOf ls)) n ∙ ap (firstStray (countFrom first (length ns))) b ∙ pass) in
+    subst (λ (k : ℕ). Latches most first k ls (latchesBytes ns rs)) n
+    (subst (λ (v : List ℕ). Latches most first (length ls) ls (latchesBytes v rs)) a
+    (subst (λ (v : List ℕ). Latches most first (length ls) ls (latchesBytes (nextsOf ls) v)) b all))
 
 -- the header
 

@@ -3,18 +3,22 @@
 use Prim.Native.Nat.{ℕ, _^_, _≤_, _<_}
 use mathlib.Core.Path.{_≡_, sym, _∙_}
 use mathlib.Core.Logic.{_↔_}
+use mathlib.Core.Option.{none}
 use mathlib.Core.List.{List, _++_}
 use lib.ListN.{length}
 use denote.Ref.{now}
 use Rattle.promise.specs.Determined.{DeterminesCells}
+use Rattle.circuit.specs.Circuit.{firstStray}
+use Rattle.circuit.specs.Ordered.{countFrom}
 use Rattle.circuit.specs.Outcome.{limit, total}
 use Rattle.circuit.specs.Claims.{AllWithin}
 use Rattle.lines.specs.declared.Header.{Header}
 use Rattle.lines.specs.Limits.{Within}
+use Rattle.lines.specs.Lines.{LatchLine, nextsOf, resetsOf}
 use Rattle.lines.specs.Sections.{Roots, rootCount}
 use Rattle.lines.specs.Spelling.{Lines, Latches, HeaderCounts, Rooting}
-use Rattle.sections.specs.Bytes.{linesBytes, upToLast, afterTag, rootsBytes}
-use Rattle.sections.specs.Claims.{Fit, Least, NoResets, spelledOptions}
+use Rattle.sections.specs.Bytes.{linesBytes, latchesBytes, upToLast, afterTag, rootsBytes}
+use Rattle.sections.specs.Claims.{Fit, Least, latchLinesOf, ResetsNeeded, spelledOptions}
 use Rattle.sections.proofs.Spelled as spelled
 use Rattle.sections.proofs.Ours as ours
 use Rattle.sections.proofs.put_line.Kinds as line-kinds
@@ -23,6 +27,10 @@ use Rattle.sections.proofs.put_lines.Kinds as lines-kinds
 use Rattle.sections.proofs.put_lines.Reads as lines-contract
 use Rattle.sections.proofs.put_count.Kinds as count-kinds
 use Rattle.sections.proofs.put_count.Reads as count-contract
+use Rattle.sections.proofs.put_latch.Kinds as latch-kinds
+use Rattle.sections.proofs.put_latch.Reads as latch-contract
+use Rattle.sections.proofs.put_latches.Kinds as latches-kinds
+use Rattle.sections.proofs.put_latches.Reads as latches-contract
 use Rattle.sections.proofs.put_header.Kinds as header-kinds
 use Rattle.sections.proofs.put_header.Reads as header-contract
 use Rattle.sections.proofs.put_roots.Kinds as roots-kinds
@@ -39,6 +47,12 @@ one-put-lines κs a x y e f p q = (p .1 ∙ sym (q .1), p .0 ∙ sym (q .0))
 pub one-put-count : DeterminesCells 1 count-kinds.ps count-kinds.r count-contract.Learnt (λ κs e. now (e .0))
 one-put-count κs a x y e f p q = (p .1 ∙ sym (q .1), p .0 ∙ sym (q .0))
 
+pub one-put-latch : DeterminesCells 1 latch-kinds.ps latch-kinds.r latch-contract.Learnt (λ κs e. now (e .0))
+one-put-latch κs a x y e f p q = (p .1 ∙ sym (q .1), p .0 ∙ sym (q .0))
+
+pub one-put-latches : DeterminesCells 3 latches-kinds.ps latches-kinds.r latches-contract.Learnt (λ κs e. now (e .0))
+one-put-latches κs a x y e f p q = (p .1 ∙ sym (q .1), p .0 ∙ sym (q .0))
+
 pub one-put-header : DeterminesCells 2 header-kinds.ps header-kinds.r header-contract.Learnt (λ κs e. now (e .0))
 one-put-header κs a x y e f p q = (p .1 ∙ sym (q .1), p .0 ∙ sym (q .0))
 
@@ -50,8 +64,10 @@ one-put-roots κs a x y e f p q = (p .1 ∙ sym (q .1), p .0 ∙ sym (q .0))
 pub lines-spelled : (most : ℕ) (vs : List ℕ) → AllWithin most vs → Fit vs → Lines most (length vs) vs (linesBytes vs)
 lines-spelled = spelled.lines-spelled
 
-pub latches-spelled : (most : ℕ) (vs : List ℕ) → AllWithin most vs → Fit vs → Latches most (length vs) vs (linesBytes vs)
-latches-spelled = spelled.latches-spelled
+pub latches-spelled : (most first : ℕ) (nexts resets : List ℕ) → length resets ≡ length nexts → AllWithin most nexts → AllWithin most resets → most < 2 ^ 64
+    → firstStray (countFrom first (length nexts)) resets ≡ none
+    → Latches most first (length nexts) (latchLinesOf nexts resets) (latchesBytes nexts resets)
+latches-spelled = spelled.lists-spelled
 
 pub header-spelled : (h : Header) → Within h → HeaderCounts h (afterTag h)
 header-spelled = spelled.header-spelled
@@ -69,11 +85,12 @@ lines-only = ours.lines-only
 pub roots-only : (h : Header) (most room : ℕ) (r : Roots) (w : List ℕ) → Rooting h most room r w → w ≡ rootsBytes h r
 roots-only = ours.roots-only
 
--- latch lines are ours exactly where none has a reset field; no others are shorter, and others as long are ours
-pub latches-exactly : (most n : ℕ) (vs w : List ℕ) (t : Latches most n vs w) → (w ≡ linesBytes vs) ↔ NoResets most vs 0 w (t .1)
+-- latch lines are ours exactly where a reset field is there only when the reset is not 0; no others are shorter, and others as long are ours
+pub latches-exactly : (most first n : ℕ) (ls : List LatchLine) (w : List ℕ) (t : Latches most first n ls w)
+    → (w ≡ latchesBytes (nextsOf ls) (resetsOf ls)) ↔ ResetsNeeded most first ls 0 w (t .1)
 latches-exactly = ours.latches-exactly
 
-pub latches-least : (most n : ℕ) (vs w : List ℕ) → Latches most n vs w → Least (linesBytes vs) w
+pub latches-least : (most first n : ℕ) (ls : List LatchLine) (w : List ℕ) → Latches most first n ls w → Least (latchesBytes (nextsOf ls) (resetsOf ls)) w
 latches-least = ours.latches-least
 
 -- a header is ours exactly where it spells no optional count past the last that is not zero; and so on

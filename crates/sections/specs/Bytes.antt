@@ -1,4 +1,4 @@
--- The bytes of what both forms of an AIGER file share, as we write them: a line, the header, the root section. Assumes nothing.
+-- The bytes of what both forms of an AIGER file share, as we write them: a line, a latch's line, the header, the root section. Assumes nothing.
 use Prim.Native.Nat.{ℕ, _+_}
 use mathlib.Core.Bool.{cond}
 use mathlib.Core.List.{List, [], _∷_, _++_}
@@ -26,6 +26,20 @@ countBytes v = 32 ∷ digitsOf v
 
 abbrev pub countsBytes : List ℕ → List ℕ
 countsBytes vs = rowBytes countBytes vs
+
+-- a latch's reset: a space and its digits, or nothing where it is 0
+unfoldable pub resetBytes : ℕ → List ℕ
+resetBytes reset = cond (eqb reset 0) [] (32 ∷ digitsOf reset)
+
+-- a latch's line: the digits of its next state, its reset, a newline
+unfoldable pub latchBytes : ℕ → ℕ → List ℕ
+latchBytes next reset = digitsOf next ++ (resetBytes reset ++ (10 ∷ []))
+
+-- latch lines, from next states and resets side by side, as long as both last
+abbrev pub latchesBytes : List ℕ → List ℕ → List ℕ
+latchesBytes [] resets = []
+latchesBytes (n ∷ ns) [] = []
+latchesBytes (n ∷ ns) (r ∷ rs) = latchBytes n r ++ latchesBytes ns rs
 
 -- a count and those that are kept behind it: where none is, a zero is not kept either
 abbrev pub keptBefore : ℕ → List ℕ → List ℕ

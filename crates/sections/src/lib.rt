@@ -1,12 +1,13 @@
-// What both forms of an AIGER file share, as it is written: lines with a number, the header, the root section. Each writer puts its bytes into lent
-// bytes from a place on. What does not fit is not written, and the place after it is answered all the same.
+// What both forms of an AIGER file share, as it is written: lines with a number, latch lines, the header, the root section. Each writer puts its bytes
+// into lent bytes from a place on. What does not fit is not written, and the place after it is answered all the same.
 ghost use mathlib.Core.Path.{_≡_};
 ghost use Prim.Native.Nat.{_+_, _<_, min};
 ghost use lib.ListN.{length};
 ghost use Rattle.place.specs.Place.{further};
 ghost use Rattle.text.specs.Put.{putAll};
 ghost use Rattle.lines.specs.Sections.{firstRoots};
-ghost use Rattle.sections.specs.Bytes.{lineBytes, linesBytes, countBytes, countsBytes, upToLast, optional, headerBytes, rootsBytes};
+ghost use Rattle.sections.specs.Bytes.{lineBytes, linesBytes, countBytes, countsBytes, resetBytes, latchBytes, latchesBytes};
+ghost use Rattle.sections.specs.Bytes.{upToLast, optional, headerBytes, rootsBytes};
 use lent::words::counted;
 use lines::Header;
 
@@ -49,6 +50,41 @@ fn put_counts(out: &mut [u8], at: usize, list: &[u32]) -> usize
     let mut place = at;
     while i < list.len() {
         place = put_count(out, place, list[i]);
+        i += 1;
+    }
+    place
+}
+
+// A latch's reset with the space before it, or nothing where it is 0; the place after it.
+fn put_reset(out: &mut [u8], at: usize, reset: u32) -> usize
+    ensures { λ r. ⌜ (now (out .exit) ≡ putAll (now (out .entry)) at (resetBytes reset)) × (r ≡ further at (length (resetBytes reset))) ⌝ }
+{
+    if 0 < reset {
+        let digits = text::put(out, at, b' ');
+        return text::put_decimal(out, digits, reset as u64);
+    }
+    at
+}
+
+// A latch's line: its next state, its reset where that is not 0, a newline; the place after it.
+pub fn put_latch(out: &mut [u8], at: usize, next: u32, reset: u32) -> usize
+    ensures { λ r. ⌜ (now (out .exit) ≡ putAll (now (out .entry)) at (latchBytes next reset)) × (r ≡ further at (length (latchBytes next reset))) ⌝ }
+{
+    let after_next = text::put_decimal(out, at, next as u64);
+    let after_reset = put_reset(out, after_next, reset);
+    text::put(out, after_reset, b'\n')
+}
+
+// Latch lines, of next states and resets side by side, as long as both last; the place after them.
+pub fn put_latches(out: &mut [u8], at: usize, nexts: &[u32], resets: &[u32]) -> usize
+    ensures { λ r. ⌜ (now (out .exit) ≡ putAll (now (out .entry)) at (latchesBytes (now (nexts .entry)) (now (resets .entry))))
+        × (r ≡ further at (length (latchesBytes (now (nexts .entry)) (now (resets .entry))))) ⌝ }
+{
+    let n = smaller(nexts.len(), resets.len());
+    let mut i: usize = 0;
+    let mut place = at;
+    while i < n {
+        place = put_latch(out, place, nexts[i], resets[i]);
         i += 1;
     }
     place

@@ -1,4 +1,5 @@
--- The circuit on a sheet: its lists are parts of the codes, and its codes in the order of check 4 are the codes in the order of the sheet. Assumes nothing.
+-- The circuit on a sheet: its lists are parts of the codes, and its codes in the order of check 4, but for the resets, which are 0, are the codes in the order of
+-- the sheet. Assumes nothing.
 use Prim.Native.Nat.{ℕ, _+_, _*_, _-_, _/_, _%_, _≤_}
 use mathlib.Core.Path.{_≡_, refl, sym, ap, _∙_}
 use mathlib.Core.Option.{none, some}
@@ -9,8 +10,10 @@ use lib.Seq.{length-take-le, drop-drop, take-all, take-at}
 use Rattle.lit.specs.Code.{variable}
 use Rattle.lit.specs.declared.Var.{Var}
 use Rattle.circuit.specs.declared.CircuitRecord.{CircuitRecord}
-use Rattle.circuit.specs.Circuit.{Circuit, gateCodes, latchCodes, codes, firstOver, renumber}
+use Rattle.circuit.specs.Circuit.{Circuit, gateCodes, firstOver, renumber}
 use Rattle.circuit.specs.Outcome.{gatesOf}
+use Rattle.circuit.specs.Resets.{sideBySide, codesBefore, renumberBefore}
+use Rattle.circuit.proofs.Resets.{as-before}
 use Rattle.sheet_read.specs.declared.Offender.the-variants.{Nothing, Over}
 use Rattle.sheet_lines.specs.Lines.{refusedLine}
 use Rattle.sheet_read.specs.Sheet.{topOf, inputCount, latchCount, gateCount, rootCount, codeCount}
@@ -28,7 +31,7 @@ gate-codes (a ∷ []) e = absurd (omega arith)
 gate-codes (a ∷ b ∷ []) e = absurd (omega arith)
 gate-codes (a ∷ b ∷ c ∷ ws) e = ap (λ (l : List ℕ). a ∷ b ∷ c ∷ l) (gate-codes ws (omega arith))
 
-latch-codes : (ws : List ℕ) → length ws % 2 ≡ 0 → latchCodes (statesOf ws) (nextsOf ws) ≡ ws
+latch-codes : (ws : List ℕ) → length ws % 2 ≡ 0 → sideBySide (statesOf ws) (nextsOf ws) ≡ ws
 latch-codes [] e = refl
 latch-codes (a ∷ []) e = absurd (omega arith)
 latch-codes (a ∷ b ∷ ws) e = ap (λ (l : List ℕ). a ∷ b ∷ l) (latch-codes ws (omega arith))
@@ -37,9 +40,14 @@ latch-codes (a ∷ b ∷ ws) e = ap (λ (l : List ℕ). a ∷ b ∷ l) (latch-co
 part : (i n : ℕ) (cs : List ℕ) → take n (drop i cs) ++ drop (i + n) cs ≡ drop i cs
 part i n cs = ap (λ (l : List ℕ). take n (drop i cs) ++ l) (sym (drop-drop n i cs)) ∙ take-append-drop n (drop i cs)
 
+-- with every reset 0 renumbering is what it was before latches had resets
+pub sheet-before : (h cs : List ℕ) → renumber (circuitOn h cs) ≡ renumberBefore (circuitOn h cs)
+unfolding circuitOn
+sheet-before h cs = as-before (circuitOn h cs) refl
+
 -- a circuit that check 4 refuses
-over-text : (C : Circuit) (c : ℕ) → firstOver (2 * C .top + 1) (codes C) ≡ some c → refusedLine 4 c ≡ outText C (renumber C)
-unfolding renumber refusedText
+over-text : (C : Circuit) (c : ℕ) → firstOver (2 * C .top + 1) (codesBefore C) ≡ some c → refusedLine 4 c ≡ outText C (renumberBefore C)
+unfolding renumberBefore refusedText
 over-text C c e = rw e
 
 pub words-long : (h cs : List ℕ) → length cs ≡ codeCount h → length cs ≡ inputCount h + 3 * gateCount h + 2 * latchCount h + rootCount h
@@ -121,12 +129,12 @@ module _ (h cs : List ℕ) (taken : Taken h) (all : length cs ≡ codeCount h) w
   pub gates-end : inputCount h + 3 * gateCount h ≤ length cs
   gates-end = omega (arith, long)
 
-  pub codes-are : codes (circuitOn h cs) ≡ cs
-  unfolding circuitOn codes
+  pub codes-are : codesBefore (circuitOn h cs) ≡ cs
+  unfolding circuitOn codesBefore
   codes-are =
       let gates = gate-codes (gateWords h cs) (omega (arith, gates-long)) in
       let latches = latch-codes (latchWords h cs) (omega (arith, latches-long)) in
-      ap (λ (x : List ℕ). inputCodes h cs ++ (x ++ (latchCodes (statesOf (latchWords h cs)) (nextsOf (latchWords h cs)) ++ rootCodes h cs))) gates
+      ap (λ (x : List ℕ). inputCodes h cs ++ (x ++ (sideBySide (statesOf (latchWords h cs)) (nextsOf (latchWords h cs)) ++ rootCodes h cs))) gates
       ∙ ap (λ (x : List ℕ). inputCodes h cs ++ (gateWords h cs ++ (x ++ rootCodes h cs))) latches
       ∙ ap (λ (x : List ℕ). inputCodes h cs ++ (gateWords h cs ++ x)) (part (inputCount h + 3 * gateCount h) (2 * latchCount h) cs)
       ∙ ap (λ (x : List ℕ). inputCodes h cs ++ x) (part (inputCount h) (3 * gateCount h) cs)
@@ -135,7 +143,8 @@ module _ (h cs : List ℕ) (taken : Taken h) (all : length cs ≡ codeCount h) w
   -- check 4 on the codes themselves
   pub codes-over : (c : ℕ) → firstOver (2 * topOf h + 1) cs ≡ some c → refusedLine 4 c ≡ outText (circuitOn h cs) (renumber (circuitOn h cs))
   unfolding circuitOn
-  codes-over c e = over-text (circuitOn h cs) c (ap (firstOver (2 * topOf h + 1)) codes-are ∙ e)
+  codes-over c e =
+      over-text (circuitOn h cs) c (ap (firstOver (2 * topOf h + 1)) codes-are ∙ e) ∙ ap (outText (circuitOn h cs)) (sym (sheet-before h cs))
 
   pub codes-words : firstOver (2 * topOf h + 1) cs ≡ none → Words cs
   codes-words e i less = omega (arith, none-over (2 * topOf h + 1) cs e i less, bounds taken)

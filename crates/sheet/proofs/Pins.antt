@@ -13,7 +13,7 @@ use Rattle.circuit.specs.declared.CircuitRecord.{CircuitRecord}
 use Rattle.circuit.specs.Map.{entryImage, imageIn, store, codeOf}
 use Rattle.circuit.specs.Graph.{Gate}
 use Rattle.circuit.specs.Walk.{walkAll, walk, look, throughInputs, settle, settleOn, settleAs, already, nextCode, firstCode, folded}
-use Rattle.circuit.specs.Circuit.{Circuit, renumber, codes, walked, start}
+use Rattle.circuit.specs.Circuit.{Circuit, renumber, numbered, codes, walked, start}
 use Rattle.circuit.specs.Ordered.{orderedOf, imagesIn}
 use Rattle.sheet_lines.proofs.Pins.{bytes}
 use Rattle.sheet_lines.specs.Lines.{refusedLine, orderedLine, gateLine, imageLine}
@@ -29,7 +29,7 @@ use Rattle.sheet.specs.Promise.{Words, circuitIn, Shaped, Roomy}
 pub told :
     reportOf (0x03 ∷ 0x02 ∷ 0x00 ∷ 0x01 ∷ 0x01 ∷ 0x00 ∷ 0x00 ∷ 0x00 ∷ 0x00 ∷ 0x00 ∷ 0x02 ∷ 0x04 ∷ 0x06 ∷ 0x02 ∷ 0x04 ∷ 0x06 ∷ [])
     ≡ bytes "ordered 3 2 0 1\n6 4 2\nr 6\n"
-unfolding reportOf readOf sheetRead listsRead numbersAt binaryAt goOnAt tooLarge rootCount codeCount circuitOn isOdd renumber codes walkAll walked start
+unfolding reportOf readOf sheetRead listsRead numbersAt binaryAt goOnAt tooLarge rootCount codeCount circuitOn isOdd renumber numbered codes walkAll walked start
     store flipped walk look imageIn entryImage throughInputs settle settleOn settleAs already nextCode firstCode folded codeOf orderedOf imagesIn textOf
     orderedText orderedLine gateLine imageLine digitsOf
 told = refl
@@ -74,7 +74,7 @@ pub settings-pinned :
     ≡ bytes "ordered 8 3 2 3\n12 4 2\n14 11 8\n16 14 12\nn 15\nn 12\nr 12\nr 13\nr 14\nr 5\n")
     × (reportOf (sheet 7 inputs gates latches roots)
     ≡ bytes "ordered 7 3 2 2\n12 11 8\n14 4 2\nn 13\nn 14\nr 14\nr 15\nr 12\nr 5\n")
-unfolding reportOf readOf sheetRead listsRead numbersAt binaryAt goOnAt tooLarge rootCount codeCount circuitOn isOdd renumber codes walkAll walked start
+unfolding reportOf readOf sheetRead listsRead numbersAt binaryAt goOnAt tooLarge rootCount codeCount circuitOn isOdd renumber numbered codes walkAll walked start
     store flipped walk look imageIn entryImage throughInputs settle settleOn settleAs already nextCode firstCode folded codeOf orderedOf imagesIn textOf
     orderedText orderedLine gateLine imageLine digitsOf
 settings-pinned = (refl, refl, refl, refl, refl, refl, refl, refl)
@@ -89,7 +89,7 @@ pub kinds-pinned :
     ∷ 18 ∷ 2 ∷ 12 ∷ 15 ∷ 7 ∷ 16 ∷ 17 ∷ 0 ∷ 1 ∷ 3 ∷ 4 ∷ 5 ∷ 8 ∷ 9 ∷ 10 ∷ 11 ∷ 13 ∷ 14 ∷ 19 ∷ 6 ∷ [])
     ≡ bytes "ordered 9 2 3 4\n12 5 3\n14 4 2\n16 14 7\n18 16 12\nn 6\nn 9\nn 0\nr 18\nr 2\n"
     ++ bytes "r 14\nr 13\nr 7\nr 16\nr 17\nr 0\nr 1\nr 3\nr 4\nr 5\nr 8\nr 9\nr 10\nr 11\nr 15\nr 12\nr 19\nr 6\n"
-unfolding reportOf readOf sheetRead listsRead numbersAt binaryAt goOnAt tooLarge rootCount codeCount circuitOn isOdd renumber codes walkAll walked start
+unfolding reportOf readOf sheetRead listsRead numbersAt binaryAt goOnAt tooLarge rootCount codeCount circuitOn isOdd renumber numbered codes walkAll walked start
     store flipped walk look imageIn entryImage throughInputs settle settleOn settleAs already nextCode firstCode folded codeOf orderedOf imagesIn textOf
     orderedText orderedLine gateLine imageLine digitsOf
 kinds-pinned = refl
@@ -116,7 +116,7 @@ pub pinned :
     ≡ bytes "refused 4 4294967296\n")
     × (reportOf (0x01 ∷ 0x01 ∷ 0x00 ∷ 0x00 ∷ 0x00 ∷ 0x00 ∷ 0x00 ∷ 0x00 ∷ 0x00 ∷ 0x00 ∷ 0x04 ∷ []) ≡ bytes "refused 4 4\n")
     × (reportOf (0x01 ∷ 0x02 ∷ 0x00 ∷ 0x00 ∷ 0x00 ∷ 0x00 ∷ 0x00 ∷ 0x00 ∷ 0x00 ∷ 0x00 ∷ 0x02 ∷ 0x03 ∷ []) ≡ bytes "refused 5 3\n")
-unfolding reportOf readOf sheetRead listsRead numbersAt binaryAt goOnAt tooLarge rootCount codeCount circuitOn isOdd renumber codes refusedText
+unfolding reportOf readOf sheetRead listsRead numbersAt binaryAt goOnAt tooLarge rootCount codeCount circuitOn isOdd renumber numbered codes refusedText
     refusedLine digitsOf
 pinned = (refl, refl, refl, refl, refl, refl, refl, refl, refl, refl, refl, refl)
 
@@ -144,7 +144,7 @@ pub refusals-pinned :
     × (reportOf (sheet 0 inputs (20 ∷ 2 ∷ 4 ∷ 13 ∷ 4 ∷ 2 ∷ 16 ∷ 20 ∷ 1 ∷ 18 ∷ 10 ∷ 15 ∷ 22 ∷ 18 ∷ 13 ∷ []) latches roots) ≡ bytes "refused 7 15\n")
     -- 8: gate 20(2,17), where 16(20,1): the path is 20, 17, 20 and then 17 is its middle
     × (reportOf (sheet 0 inputs (20 ∷ 2 ∷ 17 ∷ 13 ∷ 4 ∷ 2 ∷ 16 ∷ 20 ∷ 1 ∷ 18 ∷ 10 ∷ 9 ∷ 22 ∷ 18 ∷ 13 ∷ []) latches roots) ≡ bytes "refused 8 17\n")
-unfolding reportOf readOf sheetRead listsRead numbersAt binaryAt goOnAt tooLarge rootCount codeCount circuitOn isOdd renumber codes walkAll walked start
+unfolding reportOf readOf sheetRead listsRead numbersAt binaryAt goOnAt tooLarge rootCount codeCount circuitOn isOdd renumber numbered codes walkAll walked start
     store flipped walk look imageIn entryImage throughInputs settle settleOn settleAs already nextCode firstCode folded codeOf orderedOf imagesIn textOf
     orderedText orderedLine gateLine imageLine refusedText refusedLine digitsOf
 refusals-pinned = (refl, refl, refl, refl, refl, refl, refl, refl, refl, refl, refl, refl, refl, refl)
@@ -179,6 +179,7 @@ circuit trim hash fold =
       inputs = 4 ∷ 2 ∷ 7 ∷ [];
       states = 30 ∷ 32 ∷ [];
       nexts = 19 ∷ 22 ∷ [];
+      resets = 0 ∷ 0 ∷ [];
       gates = gate 20 12 14 ∷ gate 13 5 8 ∷ gate 16 21 1 ∷ gate 18 10 9 ∷ [];
       counts = 2 ∷ 0 ∷ 1 ∷ 3 ∷ 4 ∷ [];
       roots = 41 ∷ 42 ∷ 43 ∷ 44 ∷ 45 ∷ 46 ∷ 47 ∷ 48 ∷ 49 ∷ 50 ∷ [];
@@ -205,6 +206,8 @@ pub circuit-pinned :
     × (circuitIn (header 6) (4 ∷ 2 ∷ 7 ∷ []) (30 ∷ 32 ∷ []) (19 ∷ 22 ∷ []) (20 ∷ 12 ∷ 14 ∷ 13 ∷ 5 ∷ 8 ∷ 16 ∷ 21 ∷ 1 ∷ 18 ∷ 10 ∷ 9 ∷ [])
     (41 ∷ 42 ∷ 43 ∷ 44 ∷ 45 ∷ 46 ∷ 47 ∷ 48 ∷ 49 ∷ 50 ∷ [])
     ≡ circuit false true true)
+    -- a reset for each state, also where there are fewer next states
+    × ((circuitIn (header 6) [] (30 ∷ 32 ∷ 34 ∷ []) (19 ∷ []) [] []) .resets ≡ 0 ∷ 0 ∷ 0 ∷ [])
     -- the words of each list
     × (inputCodes (header 0) words ≡ 4 ∷ 2 ∷ 7 ∷ [])
     × (gateWords (header 0) words ≡ 20 ∷ 12 ∷ 14 ∷ 13 ∷ 5 ∷ 8 ∷ 16 ∷ 21 ∷ 1 ∷ 18 ∷ 10 ∷ 9 ∷ [])
@@ -216,6 +219,7 @@ pub circuit-pinned :
     × (statesOf (30 ∷ []) ≡ []) × (nextsOf (30 ∷ []) ≡ []) × (statesOf [] ≡ []) × (nextsOf [] ≡ [])
 unfolding circuitOn isOdd
 circuit-pinned = (
+  refl,
   refl,
   refl,
   refl,
@@ -258,9 +262,9 @@ pub shapes-taken : Shaped (header 7) (replicate 3 5) (replicate 2 6) (replicate 
 unfolding tooLarge rootCount
 shapes-taken = record { taken = record { ten = refl; within = refl }; inputs = refl; states = refl; nexts = refl; gates = refl; roots = refl }
 
-pub rooms-pinned : (m ns rs gs ws : List ℕ) → Roomy m ns rs gs ws
-    → (length m ≡ 1024) × (length ns ≡ 1023) × (length rs ≡ 1023) × (length gs ≡ 2046) × (length ws ≡ 6141)
-rooms-pinned m ns rs gs ws r = (r .map, r .nextImages, r .rootImages, r .gatesOut, r .scratch)
+pub rooms-pinned : (m ns zs rs gs ws : List ℕ) → Roomy m ns zs rs gs ws
+    → (length m ≡ 1024) × (length ns ≡ 1023) × (length zs ≡ 1023) × (length rs ≡ 1023) × (length gs ≡ 2046) × (length ws ≡ 6141)
+rooms-pinned m ns zs rs gs ws r = (r .map, r .nextImages, r .resetImages, r .rootImages, r .gatesOut, r .scratch)
 
 pub words-pinned : Words (4294967295 ∷ 7 ∷ []) × (Words (7 ∷ 4294967296 ∷ []) → ⊥)
 words-pinned = (fit, λ w. omega (arith, w 1 (omega arith)))

@@ -9,6 +9,7 @@ use lib.Seq.{take-all, length-take-le}
 use Rattle.place.specs.Place.{further}
 use Rattle.text.specs.Put.{putAll}
 use Rattle.circuit.specs.Circuit.{renumber}
+use Rattle.circuit.specs.Resets.{renumberBefore}
 use Rattle.sheet_read.specs.declared.Reading.{Reading}
 use Rattle.sheet_read.specs.declared.Reading.the-variants.{Whole, Faulty}
 use Rattle.sheet_lines.specs.Lines.{refusedLine}
@@ -18,6 +19,7 @@ use Rattle.sheet.specs.Report.{outText, reportOf}
 use Rattle.sheet_lines.specs.Promise.{Put}
 use Rattle.sheet_lines.proofs.Texts.{put-same}
 use Rattle.sheet_read.proofs.Sheets.{Got}
+use Rattle.sheet.proofs.Circuits.{sheet-before}
 use Rattle.sheet.proofs.Room.{report-fits}
 
 -- a text that is the report, put from the start on
@@ -35,6 +37,12 @@ whole-text s h cs r g e w = rw (sym e ∙ w, g .codes, g .header)
 pub faulty-text : (s : List ℕ) (r : Reading) (n k m : ℕ) → r ≡ readOf s .reading → r ≡ Faulty n k → m ≡ n → refusedLine m k ≡ reportOf s
 unfolding reportOf
 faulty-text s r n k m e f p = rw (sym e ∙ f, p)
+
+-- a sheet that is whole is renumbered as it was before latches had resets
+pub as-before : (s : List ℕ) → readOf s .reading ≡ Whole
+    → reportOf s ≡ outText (circuitOn (readOf s .header) (readOf s .codes)) (renumberBefore (circuitOn (readOf s .header) (readOf s .codes)))
+unfolding reportOf
+as-before s w = rw w (ap (outText (circuitOn (readOf s .header) (readOf s .codes))) (sheet-before (readOf s .header) (readOf s .codes)))
 
 -- a sheet that is too long, and how much of it shows that
 

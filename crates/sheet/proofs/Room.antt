@@ -6,7 +6,7 @@ use mathlib.Core.Bool.{Bool, true, false, cond}
 use mathlib.Core.List.{List, [], _∷_, _++_}
 use native.Mathlib.Omega.{arith}
 use lib.Dec.{ltb}
-use lib.ListN.{length, length-append, length-map}
+use lib.ListN.{length, length-append, length-map, length-replicate}
 use Rattle.token.specs.Format.{digitsUpTo, digitsOf}
 use Rattle.circuit.specs.Refusals.{refusalNumber, refusalLiteral}
 use Rattle.circuit.specs.Graph.{Gate}
@@ -138,6 +138,7 @@ module _ (h cs : List ℕ) (taken : Taken h) (all : length cs ≡ codeCount h) w
               gates-few,
             );
         latches = shaped .states ∙ sym (shaped .nexts);
+        resets = sym (length-replicate _ 0);
       }
 
   images-many : (m xs : List ℕ) → length (imagesIn m xs) ≡ length xs

@@ -12,12 +12,14 @@ use Rattle.promise.specs.Determined.{DeterminesCells}
 use Rattle.text.specs.Put.{putAll}
 use Rattle.text.proofs.Theorems.{front-is-text}
 use Rattle.circuit.specs.Circuit.{renumber}
-use Rattle.circuit.specs.Outcome.{lentOf, conclusion}
+use Rattle.circuit.specs.Outcome.{lentOf, conclusion, zeros}
+use Rattle.circuit.specs.Resets.{renumberBefore}
 use Rattle.circuit.proofs.Outcome.{conclusion-of}
 use Rattle.sheet_lines.specs.Lines.{refusedLine}
-use Rattle.sheet_read.specs.Sheet.{sheetLimit}
-use Rattle.sheet.specs.Circuit.{recordOn}
-use Rattle.sheet.specs.Report.{reportOf, Ends}
+use Rattle.sheet_read.specs.declared.Reading.the-variants.{Whole}
+use Rattle.sheet_read.specs.Sheet.{sheetLimit, readOf}
+use Rattle.sheet.specs.Circuit.{recordOn, circuitOn}
+use Rattle.sheet.specs.Report.{outText, reportOf, Ends}
 use Rattle.sheet.specs.Promise.{Shaped, Roomy, circuitIn}
 use Rattle.sheet.proofs.Answers as answers
 use Rattle.sheet.proofs.Room as room
@@ -52,10 +54,16 @@ whole s out room = front-is-text out (reportOf s) (omega (arith, fits s))
 pub ends : (s : List ℕ) → Ends (reportOf s)
 ends = newlines.report-ends
 
--- 4. The library's order: what a sheet announces passes checks 1 to 3, with whatever of room for the largest sheet is lent, so the first that can refuse is
--- check 4.
+-- 4. The library's order: what a sheet announces, every reset 0, passes checks 1 to 3, with whatever of room for the largest sheet is lent, so the first that
+-- can refuse is check 4.
 
-pub library-order : (h is ss ns gs rs m n r g w : List ℕ) → Shaped h is ss ns gs rs → Roomy m n r g w
-    → conclusion (lentOf (recordOn h) is ss ns gs rs m n r g w) ≡ renumber (circuitIn h is ss ns gs rs)
-library-order h is ss ns gs rs m n r g w shaped roomy =
-    conclusion-of (lentOf (recordOn h) is ss ns gs rs m n r g w) (answers.fits h is ss ns gs rs m n r g w shaped roomy)
+pub library-order : (h is ss ns gs rs m n z r g w : List ℕ) → Shaped h is ss ns gs rs → Roomy m n z r g w
+    → conclusion (lentOf (recordOn h) is ss ns (zeros (length ss)) gs rs m n z r g w) ≡ renumber (circuitIn h is ss ns gs rs)
+library-order h is ss ns gs rs m n z r g w shaped roomy =
+    conclusion-of (lentOf (recordOn h) is ss ns (zeros (length ss)) gs rs m n z r g w) (answers.fits h is ss ns gs rs m n z r g w shaped roomy)
+
+-- 5. A sheet has no resets, and the report on it is what it was before latches had them.
+
+pub as-before : (s : List ℕ) → readOf s .reading ≡ Whole
+    → reportOf s ≡ outText (circuitOn (readOf s .header) (readOf s .codes)) (renumberBefore (circuitOn (readOf s .header) (readOf s .codes)))
+as-before = reports.as-before

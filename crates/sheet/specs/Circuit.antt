@@ -1,11 +1,11 @@
 -- The circuit on a sheet that is read: its lists are parts of the codes. Assumes nothing.
 use Prim.Native.Nat.{ℕ, _+_, _*_, _/_}
 use mathlib.Core.List.{List, [], _∷_}
-use lib.ListN.{take, drop}
+use lib.ListN.{length, take, drop}
 use Rattle.lit.specs.Code.{isOdd, variable}
 use Rattle.circuit.specs.declared.CircuitRecord.{CircuitRecord}
 use Rattle.circuit.specs.Circuit.{Circuit}
-use Rattle.circuit.specs.Outcome.{gatesOf}
+use Rattle.circuit.specs.Outcome.{gatesOf, zeros}
 use Rattle.sheet_read.specs.Sheet.{topOf, inputCount, latchCount, gateCount, rootCounts, flagsOf}
 
 -- of latches, state and next in turn: the states, and the nexts
@@ -43,7 +43,7 @@ recordOn h =
       fold = isOdd (flagsOf h / 4);
     }
 
--- the circuit of a header and codes, however big a code is
+-- the circuit of a header and codes, however big a code is; a sheet has no resets, so each latch's is 0
 unfoldable pub circuitOn : List ℕ → List ℕ → Circuit
 circuitOn h cs =
     record {
@@ -51,6 +51,7 @@ circuitOn h cs =
       inputs = inputCodes h cs;
       states = statesOf (latchWords h cs);
       nexts = nextsOf (latchWords h cs);
+      resets = zeros (length (statesOf (latchWords h cs)));
       gates = gatesOf (gateWords h cs);
       counts = rootCounts h;
       roots = rootCodes h cs;

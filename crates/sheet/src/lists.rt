@@ -3,6 +3,7 @@ ghost use mathlib.Core.Path.{_≡_};
 ghost use Prim.Native.Nat.{_*_};
 ghost use lib.ListN.{length, take};
 ghost use Rattle.circuit.specs.Circuit.{renumber};
+ghost use Rattle.circuit.specs.Outcome.{zeros};
 ghost use Rattle.sheet_read.specs.Sheet.{codeCount};
 ghost use Rattle.sheet.specs.Circuit.{statesOf, nextsOf, circuitOn};
 ghost use Rattle.sheet.specs.Report.{outText};
@@ -28,6 +29,13 @@ fn row() -> [u32; 1023]
     ensures { λ r. ⌜ 1023 ≡ length r ⌝ }
 {
     [0; 1023]
+}
+
+// A reset of 0 for each latch of the largest circuit: a sheet has no resets.
+fn no_resets() -> [u32; 1023]
+    ensures { λ r. ⌜ r ≡ zeros 1023 ⌝ }
+{
+    [0u32; 1023]
 }
 
 fn map_words() -> [u32; 1024]
@@ -83,28 +91,33 @@ fn report_answer(
     roots: &[u32],
     map: &mut [u32],
     next_images: &mut [u32],
+    reset_images: &mut [u32],
     root_images: &mut [u32],
     gates_out: &mut [u32],
     scratch: &mut [u32],
     out: &mut [u8],
 ) -> usize
     requires { ⌜ Shaped (now header) (now inputs) (now states) (now nexts) (now gates) (now roots)
-        × Roomy (now map) (now «next_images») (now «root_images») (now «gates_out») (now scratch) ⌝ }
+        × Roomy (now map) (now «next_images») (now «reset_images») (now «root_images») (now «gates_out») (now scratch) ⌝ }
     ensures { λ r. ⌜ Put (now (out .entry)) 0 (outText
         (circuitIn (now (header .entry)) (now (inputs .entry)) (now (states .entry)) (now (nexts .entry)) (now (gates .entry)) (now (roots .entry)))
         (renumber (circuitIn (now (header .entry)) (now (inputs .entry)) (now (states .entry)) (now (nexts .entry)) (now (gates .entry))
         (now (roots .entry))))) (now (out .exit)) r ⌝ }
 {
     let circuit = header::circuit_on(header);
+    let resets = no_resets();
+    let latch_count = states.len();
     let answer = aig::renumber(
         circuit,
         inputs,
         states,
         nexts,
+        &resets[..latch_count],
         gates,
         roots,
         map,
         next_images,
+        reset_images,
         root_images,
         gates_out,
         scratch,
@@ -112,7 +125,6 @@ fn report_answer(
     match answer {
         Answer::Renumbered(summary) => {
             let input_count = inputs.len() as u32;
-            let latch_count = states.len();
             let root_count = roots.len();
             let gate_words = 2 * (summary.made as usize);
             print_ordered(
@@ -146,6 +158,7 @@ fn report_circuit(
 {
     let mut map = map_words();
     let mut next_images = row();
+    let mut reset_images = row();
     let mut root_images = row();
     let mut gates_out = pair_words();
     let mut scratch = scratch_words();
@@ -158,6 +171,7 @@ fn report_circuit(
         roots,
         &mut map,
         &mut next_images,
+        &mut reset_images,
         &mut root_images,
         &mut gates_out,
         &mut scratch,

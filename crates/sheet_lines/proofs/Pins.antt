@@ -6,7 +6,7 @@ use mathlib.Core.Path.{_≡_, refl}
 use mathlib.Core.List.{List, [], _∷_}
 use Rattle.token.specs.Format.{digitsOf}
 use Rattle.lit.specs.Code.{variable, literal}
-use Rattle.circuit.specs.declared.Refusal.the-variants.{TooBig, Misshapen, Short, Over, Again, StateAgain, Undefined, Cycle}
+use Rattle.circuit.specs.declared.Refusal.the-variants.{TooBig, Misshapen, Short, Over, Reset, Again, StateAgain, Undefined, Cycle}
 use Rattle.circuit.specs.Graph.{Gate}
 use Rattle.circuit.specs.Walk.{Pair, firstCode}
 use Rattle.sheet_lines.specs.Lines.{spaced, ended, orderedWord, refusedWord, refusedLine, orderedLine, gateLine, imageLine, nextLetter, rootLetter, each}
@@ -58,19 +58,20 @@ pub success-pinned :
 unfolding orderedText orderedLine gateLine imageLine digitsOf firstCode
 success-pinned = refl
 
--- 3. The line of each refusal: 1 to 3 have no literal; 4 to 8 have it.
+-- 3. The line of each refusal: 1 to 3 have no literal; 4, 22 and 5 to 8 have it.
 
 pub refusals-pinned :
     (refusedText TooBig ≡ bytes "refused 1 0\n")
     × (refusedText Misshapen ≡ bytes "refused 2 0\n")
     × (refusedText Short ≡ bytes "refused 3 0\n")
     × (refusedText (Over (literal 24)) ≡ bytes "refused 4 24\n")
+    × (refusedText (Reset (literal 13)) ≡ bytes "refused 22 13\n")
     × (refusedText (Again (literal 5)) ≡ bytes "refused 5 5\n")
     × (refusedText (StateAgain (literal 11)) ≡ bytes "refused 6 11\n")
     × (refusedText (Undefined (literal 15)) ≡ bytes "refused 7 15\n")
     × (refusedText (Cycle (literal 17)) ≡ bytes "refused 8 17\n")
 unfolding refusedText refusedLine digitsOf
-refusals-pinned = (refl, refl, refl, refl, refl, refl, refl, refl)
+refusals-pinned = (refl, refl, refl, refl, refl, refl, refl, refl, refl)
 
 -- 4. The word of the contracts: two bytes put at place 1 of five stand there and the others stay, and the place after them is 3; past the end nothing is
 -- written, and the place goes on. Two outcomes that it allows are what it says, and it allows them.

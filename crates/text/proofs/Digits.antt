@@ -51,14 +51,22 @@ count-4 v low high = omega (arith, count-more v (omega arith) (omega arith), cou
 pub count-5 : (v : ℕ) → 10000 ≤ v → v < 100000 → length (digitsOf v) ≡ 5
 count-5 v low high = omega (arith, count-more v (omega arith) (omega arith), count-4 (v / 10) (omega arith) (omega arith))
 
-pub count-five : (v : ℕ) → 100000 ≤ v → v < 2 ^ 64 → length (digitsOf v) ≡ 5 + length (digitsOf (v / 100000))
-count-five v low fits =
-    let same : v / 10 / 10 / 10 / 10 / 10 ≡ v / 100000 = omega arith in
+pub count-6 : (v : ℕ) → 100000 ≤ v → v < 1000000 → length (digitsOf v) ≡ 6
+count-6 v low high = omega (arith, count-more v (omega arith) (omega arith), count-5 (v / 10) (omega arith) (omega arith))
+
+pub count-7 : (v : ℕ) → 1000000 ≤ v → v < 10000000 → length (digitsOf v) ≡ 7
+count-7 v low high = omega (arith, count-more v (omega arith) (omega arith), count-6 (v / 10) (omega arith) (omega arith))
+
+pub count-seven : (v : ℕ) → 10000000 ≤ v → v < 2 ^ 64 → length (digitsOf v) ≡ 7 + length (digitsOf (v / 10000000))
+count-seven v low fits =
+    let same : v / 10 / 10 / 10 / 10 / 10 / 10 / 10 ≡ v / 10000000 = omega arith in
     let one = count-more v (omega arith) fits in
     let two = count-more (v / 10) (omega arith) (omega arith) in
     let three = count-more (v / 10 / 10) (omega arith) (omega arith) in
     let four = count-more (v / 10 / 10 / 10) (omega arith) (omega arith) in
     let five = count-more (v / 10 / 10 / 10 / 10) (omega arith) (omega arith) in
+    let six = count-more (v / 10 / 10 / 10 / 10 / 10) (omega arith) (omega arith) in
+    let seven = count-more (v / 10 / 10 / 10 / 10 / 10 / 10) (omega arith) (omega arith) in
     omega (arith, ap (λ (x : ℕ). length (digitsOf x)) same)
 
 -- the digits of v are put from a place on, the last of them first: those of `rest` are left, and the last of these goes to `place`

@@ -45,11 +45,20 @@ fn digit(d: u64) -> u8
     b'0' + d as u8
 }
 
-// How many decimal digits a number below 100,000 has.
+// How many decimal digits a number below 10,000,000 has.
 fn few_digits(v: u64) -> usize
-    requires { ⌜ v < 100000 ⌝ }
+    requires { ⌜ v < 10000000 ⌝ }
     ensures { λ r. ⌜ r ≡ length (digitsOf v) ⌝ }
 {
+    if 10000 <= v {
+        if v < 100000 {
+            return 5;
+        }
+        if v < 1000000 {
+            return 6;
+        }
+        return 7;
+    }
     if v < 10 {
         return 1;
     }
@@ -59,10 +68,7 @@ fn few_digits(v: u64) -> usize
     if v < 1000 {
         return 3;
     }
-    if v < 10000 {
-        return 4;
-    }
-    5
+    4
 }
 
 // How many decimal digits a number has.
@@ -71,9 +77,9 @@ fn digit_count(v: u64) -> usize
 {
     let mut n: usize = 0;
     let mut rest = v;
-    while 100000 <= rest {
-        n += 5;
-        rest = rest / 100000;
+    while 10000000 <= rest {
+        n += 7;
+        rest = rest / 10000000;
     }
     n + few_digits(rest)
 }

@@ -16,7 +16,7 @@ use Rattle.binary.proofs.fitted.Statement.{statement}
 use Rattle.binary.proofs.fitted.Tie as tie
 
 header-for-requires : tie.Need-header-for-requires
-header-for-requires c κs = few _ (c .before .before .before .before .before .pre)
+header-for-requires c κs = few _ (c .before .before .before .before .before .before .pre)
 
 wide-requires : tie.Need-wide-requires
 wide-requires c κs = search needs
@@ -24,14 +24,14 @@ wide-requires c κs = search needs
 most-bytes-requires : tie.Need-most-bytes-requires
 most-bytes-requires c κs =
     let headerAt = c .before in
-    let entry = headerAt .before .before .before .before .before .before in
+    let entry = headerAt .before .before .before .before .before .before .before in
     countable _ (entry .pre) (c .wide .result)
     (its-top _ (entry .pre) (headerAt .header-for .result) (headerAt .header-for .ensures) (c .wide .result) (c .wide .ensures))
 
 put-file-requires : tie.Need-put-file-requires
 put-file-requires c κs =
     let headerAt = c .before .before .before .before in
-    let entry = headerAt .before .before .before .before .before .before in
+    let entry = headerAt .before .before .before .before .before .before .before in
     ready _ (entry .pre) (headerAt .header-for .result) (headerAt .header-for .ensures)
 
 same-length : tie.Need-same-length
@@ -43,7 +43,7 @@ returns c =
     let mostAt = writtenAt .before .before .before in
     let wideAt = mostAt .before in
     let headerAt = wideAt .before in
-    let entry = headerAt .before .before .before .before .before .before in
+    let entry = headerAt .before .before .before .before .before .before .before in
     let h = its-header _ (entry .pre) (headerAt .header-for .result) (headerAt .header-for .ensures) in
     let top = its-top _ (entry .pre) (headerAt .header-for .result) (headerAt .header-for .ensures) (wideAt .wide .result) (wideAt .wide .ensures) in
     let n = measured _ (entry .pre) (headerAt .header-for .result) h (writtenAt .put-file .result) (writtenAt .put-file .ensures .1) in
@@ -60,7 +60,7 @@ slice-aggregate-put-file c = search needs
 put-file-requires-2 : tie.Need-put-file-requires-2
 put-file-requires-2 c κs =
     let headerAt = c .before .before .before .before in
-    let entry = headerAt .before .before .before .before .before .before in
+    let entry = headerAt .before .before .before .before .before .before .before in
     ready _ (entry .pre) (headerAt .header-for .result) (headerAt .header-for .ensures)
 
 same-length-2 : tie.Need-same-length-2
@@ -70,7 +70,7 @@ returns-2 : tie.Need-returns-2
 returns-2 c =
     let fileAt = c .before .before .before in
     let headerAt = fileAt .before .before .before .before .before in
-    let entry = headerAt .before .before .before .before .before .before in
+    let entry = headerAt .before .before .before .before .before .before .before in
     let h = its-header _ (entry .pre) (headerAt .header-for .result) (headerAt .header-for .ensures) in
     let n = measured _ (entry .pre) (headerAt .header-for .result) h (fileAt .put-file2 .result) (fileAt .put-file2 .ensures .1) in
     let none = none-put _ (entry .pre) (headerAt .header-for .result) _ (fileAt .put-file2 .ensures .0) in
@@ -80,7 +80,7 @@ returns-2 c =
 put-file-requires-3 : tie.Need-put-file-requires-3
 put-file-requires-3 c κs =
     let headerAt = c .before .before .before .before .before .before .before .before .before in
-    let entry = headerAt .before .before .before .before .before .before in
+    let entry = headerAt .before .before .before .before .before .before .before in
     ready _ (entry .pre) (headerAt .header-for .result) (headerAt .header-for .ensures)
 
 same-length-3 : tie.Need-same-length-3
@@ -92,7 +92,7 @@ returns-3 c =
     let shortAt = writtenAt .before .before in
     let fileAt = shortAt .before .before .before in
     let headerAt = fileAt .before .before .before .before .before in
-    let entry = headerAt .before .before .before .before .before .before in
+    let entry = headerAt .before .before .before .before .before .before .before in
     let h = its-header _ (entry .pre) (headerAt .header-for .result) (headerAt .header-for .ensures) in
     let n = measured _ (entry .pre) (headerAt .header-for .result) h (fileAt .put-file2 .result) (fileAt .put-file2 .ensures .1) in
     let none = none-put _ (entry .pre) (headerAt .header-for .result) _ (fileAt .put-file2 .ensures .0) in

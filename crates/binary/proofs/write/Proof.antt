@@ -40,13 +40,14 @@ returns c =
     let fittedAt = c .before .before in
     let toldAt = fittedAt .before .before in
     let checkAt = toldAt .before .before in
-    let entry = checkAt .before .before .before .before .before .before .before in
+    let entry = checkAt .before .before .before .before .before .before .before .before in
     let a = entry .args in
     let w : Words =
     record {
       inputs = a .o .inputs;
       counts = a .o .counts;
       nexts = now (a .nexts);
+      resets = now (a .resets);
       gates = now (a .gates);
       sizes = now (a .sizes);
       roots = now (a .roots);
@@ -60,13 +61,14 @@ unfolding writing
 returns-2 c =
     let faultAt = c .before in
     let checkAt = faultAt .before .before in
-    let entry = checkAt .before .before .before .before .before .before .before in
+    let entry = checkAt .before .before .before .before .before .before .before .before in
     let a = entry .args in
     let w : Words =
     record {
       inputs = a .o .inputs;
       counts = a .o .counts;
       nexts = now (a .nexts);
+      resets = now (a .resets);
       gates = now (a .gates);
       sizes = now (a .sizes);
       roots = now (a .roots);

@@ -12,23 +12,25 @@ refused-first-requires : tie.Need-refused-first-requires
 refused-first-requires c κs = tt
 
 same-length : tie.Need-same-length
-same-length c = c .before .before .before .refused-first .kept .1 .1 .0
+same-length c =
+    let refusedFirstAt = c .before .before .before in
+    refusedFirstAt .refused-first .kept .1 .1 .0
 
 returns : tie.Need-returns
 returns c =
     let refusedFirstAt = c .before .before .before in
-    let entry = refusedFirstAt .before .before .before .before .before .before .before .before .before .before .before .before .before .before in
+    let entry = refusedFirstAt .before .before .before .before .before .before .before .before .before .before .before .before .before .before .before .before in
     let a = entry .args in
     let k = recordOf (a .top) (now (a .counts)) (a .flags) in
     let lent =
-    lentOf k (now (a .inputs)) (now (a .states)) (now (a .nexts)) (now (a .gates)) (now (a .roots)) (now (a .map)) (now (a .next-images))
-    (now (a .root-images)) (now (a .gates-out)) (now (a .scratch)) in
+    lentOf k (now (a .inputs)) (now (a .states)) (now (a .nexts)) (now (a .resets)) (now (a .gates)) (now (a .roots)) (now (a .map))
+    (now (a .next-images)) (now (a .reset-images)) (now (a .root-images)) (now (a .gates-out)) (now (a .scratch)) in
     way-first (now (a .counts)) (a .flags) (now (a .answer)) _ _ (refusedFirstAt .refused-first .ensures) (c .if1 .taken) lent
 
 record-of-requires : tie.Need-record-of-requires
 record-of-requires c κs =
     let refusedFirstAt = c .before .before .before in
-    let entry = refusedFirstAt .before .before .before .before .before .before .before .before .before .before .before .before .before .before in
+    let entry = refusedFirstAt .before .before .before .before .before .before .before .before .before .before .before .before .before .before .before .before in
     let a = entry .args in
     five-counts (now (a .counts)) (a .flags) (taken (now (a .counts)) (a .flags) (now (a .answer)) _ _ (refusedFirstAt .refused-first .ensures)
     (c .if1 .left) .given)
@@ -38,50 +40,52 @@ renumber-requires c κs = tt
 
 put-answer-requires : tie.Need-put-answer-requires
 put-answer-requires c κs =
-    let if1At =
-    c .before .before .before .before .before .before .before .before .before .before .before .before .before .before
-    .before .before .before .before in
+    let if1At = c .before .before .before .before .before .before .before .before .before .before .before .before .before .before .before .before .before .before .before .before .before in
     let refusedFirstAt = if1At .before .before .before in
-    let entry = refusedFirstAt .before .before .before .before .before .before .before .before .before .before .before .before .before .before in
+    let entry = refusedFirstAt .before .before .before .before .before .before .before .before .before .before .before .before .before .before .before .before in
     let a = entry .args in
     taken-room (taken (now (a .counts)) (a .flags) (now (a .answer)) _ _ (refusedFirstAt .refused-first .ensures) (if1At .if1 .left))
 
 same-length-2 : tie.Need-same-length-2
 same-length-2 c =
-    let renumberAt = c .before .before .before .before .before .before .before .before .before .before .before .before .before .before in
-    let renumberMapKept = renumberAt .renumber .kept .1 .1 .1 .1 .1 .1 .0 in
+    let renumberAt = c .before .before .before .before .before .before .before .before .before .before .before .before .before .before .before .before in
+    let renumberMapKept = renumberAt .renumber .kept .1 .1 .1 .1 .1 .1 .1 .0 in
     renumberMapKept
 
 same-length-3 : tie.Need-same-length-3
 same-length-3 c =
-    let renumberAt = c .before .before .before .before .before .before .before .before .before .before .before .before .before .before in
-    let renumberNextImagesKept = renumberAt .renumber .kept .1 .1 .1 .1 .1 .1 .1 .0 in
+    let renumberAt = c .before .before .before .before .before .before .before .before .before .before .before .before .before .before .before .before in
+    let renumberNextImagesKept = renumberAt .renumber .kept .1 .1 .1 .1 .1 .1 .1 .1 .0 in
     renumberNextImagesKept
 
 same-length-4 : tie.Need-same-length-4
 same-length-4 c =
-    let renumberAt = c .before .before .before .before .before .before .before .before .before .before .before .before .before .before in
-    let renumberRootImagesKept = renumberAt .renumber .kept .1 .1 .1 .1 .1 .1 .1 .1 .0 in
-    renumberRootImagesKept
+    let renumberAt = c .before .before .before .before .before .before .before .before .before .before .before .before .before .before .before .before in
+    let renumberResetImagesKept = renumberAt .renumber .kept .1 .1 .1 .1 .1 .1 .1 .1 .1 .0 in
+    renumberResetImagesKept
 
 same-length-5 : tie.Need-same-length-5
 same-length-5 c =
-    let renumberAt = c .before .before .before .before .before .before .before .before .before .before .before .before .before .before in
-    let renumberGatesOutKept = renumberAt .renumber .kept .1 .1 .1 .1 .1 .1 .1 .1 .1 .0 in
-    renumberGatesOutKept
+    let renumberAt = c .before .before .before .before .before .before .before .before .before .before .before .before .before .before .before .before in
+    let renumberRootImagesKept = renumberAt .renumber .kept .1 .1 .1 .1 .1 .1 .1 .1 .1 .1 .0 in
+    renumberRootImagesKept
 
 same-length-6 : tie.Need-same-length-6
 same-length-6 c =
-    let renumberAt = c .before .before .before .before .before .before .before .before .before .before .before .before .before .before in
-    let renumberScratchKept = renumberAt .renumber .kept .1 .1 .1 .1 .1 .1 .1 .1 .1 .1 .0 in
-    renumberScratchKept
+    let renumberAt = c .before .before .before .before .before .before .before .before .before .before .before .before .before .before .before .before in
+    let renumberGatesOutKept = renumberAt .renumber .kept .1 .1 .1 .1 .1 .1 .1 .1 .1 .1 .1 .0 in
+    renumberGatesOutKept
 
 same-length-7 : tie.Need-same-length-7
 same-length-7 c =
+    let renumberAt = c .before .before .before .before .before .before .before .before .before .before .before .before .before .before .before .before in
+    let renumberScratchKept = renumberAt .renumber .kept .1 .1 .1 .1 .1 .1 .1 .1 .1 .1 .1 .1 .0 in
+    renumberScratchKept
+
+same-length-8 : tie.Need-same-length-8
+same-length-8 c =
     let putAnswerAt = c .before .before in
-    let refusedFirstAt =
-    putAnswerAt .before .before .before .before .before .before .before .before .before .before .before .before .before .before
-    .before .before .before .before .before .before .before .before in
+    let refusedFirstAt = putAnswerAt .before .before .before .before .before .before .before .before .before .before .before .before .before .before .before .before .before .before .before .before .before .before .before .before .before in
     let putAnswerAnswerKept = putAnswerAt .put-answer .kept .1 .0 in
     let refusedFirstAnswerKept = refusedFirstAt .refused-first .kept .1 .1 .0 in
     putAnswerAnswerKept ∙ refusedFirstAnswerKept
@@ -89,20 +93,20 @@ same-length-7 c =
 returns-2 : tie.Need-returns-2
 returns-2 c =
     let putAnswerAt = c .before .before in
-    let renumberAt = putAnswerAt .before .before .before .before .before .before .before .before .before .before .before .before in
-    let recordOfAt = renumberAt .before .before .before .before .before .before in
+    let renumberAt = putAnswerAt .before .before .before .before .before .before .before .before .before .before .before .before .before .before in
+    let recordOfAt = renumberAt .before .before .before .before .before .before .before in
     let if1At = recordOfAt .before in
     let refusedFirstAt = if1At .before .before .before in
-    let entry = refusedFirstAt .before .before .before .before .before .before .before .before .before .before .before .before .before .before in
+    let entry = refusedFirstAt .before .before .before .before .before .before .before .before .before .before .before .before .before .before .before .before in
     let a = entry .args in
     let given : CircuitRecord → Lent =
-    λ k. lentOf k (now (a .inputs)) (now (a .states)) (now (a .nexts)) (now (a .gates)) (now (a .roots)) (now (a .map)) (now (a .next-images))
-    (now (a .root-images)) (now (a .gates-out)) (now (a .scratch)) in
+    λ k. lentOf k (now (a .inputs)) (now (a .states)) (now (a .nexts)) (now (a .resets)) (now (a .gates)) (now (a .roots)) (now (a .map))
+    (now (a .next-images)) (now (a .reset-images)) (now (a .root-images)) (now (a .gates-out)) (now (a .scratch)) in
     let q = recordOfAt .record-of in
     let r = renumberAt .renumber in
     let left =
-    outcomeOf (r .result) (r .last .1 .1 .1 .1 .1 .1 .0) (r .last .1 .1 .1 .1 .1 .1 .1 .0) (r .last .1 .1 .1 .1 .1 .1 .1 .1 .0)
-    (r .last .1 .1 .1 .1 .1 .1 .1 .1 .1 .0) (r .last .1 .1 .1 .1 .1 .1 .1 .1 .1 .1 .0) in
+    outcomeOf (r .result) (r .last .1 .1 .1 .1 .1 .1 .1 .0) (r .last .1 .1 .1 .1 .1 .1 .1 .1 .0) (r .last .1 .1 .1 .1 .1 .1 .1 .1 .1 .0)
+    (r .last .1 .1 .1 .1 .1 .1 .1 .1 .1 .1 .0) (r .last .1 .1 .1 .1 .1 .1 .1 .1 .1 .1 .1 .0) (r .last .1 .1 .1 .1 .1 .1 .1 .1 .1 .1 .1 .1 .0) in
     way-on (now (a .counts)) (a .flags) (given (recordOf (a .top) (now (a .counts)) (a .flags))) (now (a .answer)) _
     (taken (now (a .counts)) (a .flags) (now (a .answer)) _ _ (refusedFirstAt .refused-first .ensures) (if1At .if1 .left)) (given (q .result))
     (ap given (q .ensures)) left (r .ensures) _ _ (putAnswerAt .put-answer .ensures)
@@ -123,4 +127,5 @@ imdagluz-renumber-spec =
     same-length-5
     same-length-6
     same-length-7
+    same-length-8
     returns-2)

@@ -31,9 +31,9 @@ returns c =
     let overInAt = c .before .before in
     let wideAt = overInAt .before in
     let indexAt = wideAt .before in
-    let entry = indexAt .before .before .before .before .before .before .before in
+    let entry = indexAt .before .before .before .before .before .before .before .before in
     let a = entry .args in
-    c .enum-told .given .1 ∙ in-inputs (bare (a .circuit) (now (a .inputs)) (now (a .states)) (now (a .nexts)) (now (a .gates)) (now (a .roots))) _
+    c .enum-told .given .1 ∙ in-inputs (bare (a .circuit) (now (a .inputs)) (now (a .states)) (now (a .nexts)) (now (a .resets)) (now (a .gates)) (now (a .roots))) _
     (ap (λ (k : ℕ). 2 * k + 1) (wideAt .wide .ensures ∙ indexAt .index .ensures)) (entry .pre) _ (overInAt .over-in .ensures) _
     (c .enum-told .given .1)
 
@@ -53,9 +53,9 @@ returns-2 c =
     let overInAt = enumTold2At .before .before in
     let wideAt = overInAt .before in
     let indexAt = wideAt .before in
-    let entry = indexAt .before .before .before .before .before .before .before in
+    let entry = indexAt .before .before .before .before .before .before .before .before in
     let a = entry .args in
-    c .enum-told3 .given .1 ∙ in-gates (bare (a .circuit) (now (a .inputs)) (now (a .states)) (now (a .nexts)) (now (a .gates)) (now (a .roots))) _
+    c .enum-told3 .given .1 ∙ in-gates (bare (a .circuit) (now (a .inputs)) (now (a .states)) (now (a .nexts)) (now (a .resets)) (now (a .gates)) (now (a .roots))) _
     (ap (λ (k : ℕ). 2 * k + 1) (wideAt .wide .ensures ∙ indexAt .index .ensures)) (entry .pre) _ (overInAt .over-in .ensures)
     (enumTold2At .enum-told2 .given .1) _ (overIn2At .over-in2 .ensures) _ (c .enum-told3 .given .1)
 
@@ -77,9 +77,9 @@ returns-3 c =
     let overInAt = enumTold2At .before .before in
     let wideAt = overInAt .before in
     let indexAt = wideAt .before in
-    let entry = indexAt .before .before .before .before .before .before .before in
+    let entry = indexAt .before .before .before .before .before .before .before .before in
     let a = entry .args in
-    c .enum-told5 .given .1 ∙ in-latches (bare (a .circuit) (now (a .inputs)) (now (a .states)) (now (a .nexts)) (now (a .gates)) (now (a .roots))) _
+    c .enum-told5 .given .1 ∙ in-latches (bare (a .circuit) (now (a .inputs)) (now (a .states)) (now (a .nexts)) (now (a .resets)) (now (a .gates)) (now (a .roots))) _
     (ap (λ (k : ℕ). 2 * k + 1) (wideAt .wide .ensures ∙ indexAt .index .ensures)) (entry .pre) _ (overInAt .over-in .ensures)
     (enumTold2At .enum-told2 .given .1) _ (overIn2At .over-in2 .ensures) (enumTold4At .enum-told4 .given .1) _
     (overInLatchesAt .over-in-latches .ensures) _ (c .enum-told5 .given .1)
@@ -99,9 +99,9 @@ returns-4 c =
     let overInAt = enumTold2At .before .before in
     let wideAt = overInAt .before in
     let indexAt = wideAt .before in
-    let entry = indexAt .before .before .before .before .before .before .before in
+    let entry = indexAt .before .before .before .before .before .before .before .before in
     let a = entry .args in
-    in-roots (bare (a .circuit) (now (a .inputs)) (now (a .states)) (now (a .nexts)) (now (a .gates)) (now (a .roots))) _
+    in-roots (bare (a .circuit) (now (a .inputs)) (now (a .states)) (now (a .nexts)) (now (a .resets)) (now (a .gates)) (now (a .roots))) _
     (ap (λ (k : ℕ). 2 * k + 1) (wideAt .wide .ensures ∙ indexAt .index .ensures)) (entry .pre) _ (overInAt .over-in .ensures)
     (enumTold2At .enum-told2 .given .1) _ (overIn2At .over-in2 .ensures) (enumTold4At .enum-told4 .given .1) _
     (overInLatchesAt .over-in-latches .ensures) (c .before .enum-told6 .given .1) _ (c .over-in3 .ensures)

@@ -8,9 +8,9 @@ use Rattle.file_words.proofs.read.Tie as tie
 
 returns : tie.Need-returns
 returns c =
-    let entry = c .before .before .before .before .before .before .before in
+    let entry = c .before .before .before .before .before .before .before .before in
     let a = entry .args in
-    way-short (now (a .bytes)) (listsOf (now (a .nexts)) (now (a .gates)) (now (a .sizes)) (now (a .roots))) (now (a .answer)) (c .if1 .taken)
+    way-short (now (a .bytes)) (listsOf (now (a .nexts)) (now (a .resets)) (now (a .gates)) (now (a .sizes)) (now (a .roots))) (now (a .answer)) (c .if1 .taken)
 
 read-requires : tie.Need-read-requires
 read-requires c κs = search needs
@@ -36,20 +36,24 @@ same-length-4 c = search needs
 same-length-5 : tie.Need-same-length-5
 same-length-5 c = search needs
 
+same-length-6 : tie.Need-same-length-6
+same-length-6 c = search needs
+
 returns-2 : tie.Need-returns-2
 returns-2 c =
     let putWordsAt = c .before .before .before in
-    let readAt = putWordsAt .before .before .before .before .before .before .before .before .before .before in
-    let if1At = readAt .before .before .before .before .before in
-    let entry = if1At .before .before .before .before .before .before .before in
+    let readAt = putWordsAt .before .before .before .before .before .before .before .before .before .before .before .before in
+    let if1At = readAt .before .before .before .before .before .before in
+    let entry = if1At .before .before .before .before .before .before .before .before in
     let a = entry .args in
     let said = readAt .read in
     let nextsLeft = said .last .1 .0 in
-    let gatesLeft = said .last .1 .1 .0 in
-    let sizesLeft = said .last .1 .1 .1 .0 in
-    let rootsLeft = said .last .1 .1 .1 .1 .0 in
-    way-read (now (a .bytes)) (listsOf (now (a .nexts)) (now (a .gates)) (now (a .sizes)) (now (a .roots))) (now (a .answer)) (if1At .if1 .left)
-    (seen (said .result) (listsOf nextsLeft gatesLeft sizesLeft rootsLeft)) _ _ (said .ensures) (c .number .ensures) (putWordsAt .put-words .ensures)
+    let resetsLeft = said .last .1 .1 .0 in
+    let gatesLeft = said .last .1 .1 .1 .0 in
+    let sizesLeft = said .last .1 .1 .1 .1 .0 in
+    let rootsLeft = said .last .1 .1 .1 .1 .1 .0 in
+    way-read (now (a .bytes)) (listsOf (now (a .nexts)) (now (a .resets)) (now (a .gates)) (now (a .sizes)) (now (a .roots))) (now (a .answer)) (if1At .if1 .left)
+    (seen (said .result) (listsOf nextsLeft resetsLeft gatesLeft sizesLeft rootsLeft)) _ _ (said .ensures) (c .number .ensures) (putWordsAt .put-words .ensures)
 
 pub read-spec : {M : Type 1} → statement M
 read-spec =
@@ -64,4 +68,5 @@ read-spec =
     same-length-3
     same-length-4
     same-length-5
+    same-length-6
     returns-2)

@@ -12,15 +12,15 @@ use borrow.Author.Needs.{needs}
 use Rattle.file_words.proofs.write.Statement.{statement}
 use Rattle.file_words.proofs.write.Tie as tie
 
-abbrev given : ℕ → List ℕ → List ℕ → List ℕ → List ℕ → List ℕ → Words
-given inputs counts nexts gates sizes roots =
-    record { inputs = inputs; counts = counts; nexts = nexts; gates = gates; sizes = sizes; roots = roots }
+abbrev given : ℕ → List ℕ → List ℕ → List ℕ → List ℕ → List ℕ → List ℕ → Words
+given inputs counts nexts resets gates sizes roots =
+    record { inputs = inputs; counts = counts; nexts = nexts; resets = resets; gates = gates; sizes = sizes; roots = roots }
 
 returns : tie.Need-returns
 returns c =
-    let entry = c .before .before .before .before .before .before .before .before in
+    let entry = c .before .before .before .before .before .before .before .before .before in
     let a = entry .args in
-    way-short (given (a .inputs) (now (a .counts)) (now (a .nexts)) (now (a .gates)) (now (a .sizes)) (now (a .roots))) (now (a .out)) (now (a .answer))
+    way-short (given (a .inputs) (now (a .counts)) (now (a .nexts)) (now (a .resets)) (now (a .gates)) (now (a .sizes)) (now (a .roots))) (now (a .out)) (now (a .answer))
     (c .if1 .taken)
 
 put-words-requires : tie.Need-put-words-requires
@@ -34,9 +34,9 @@ returns-2 c =
     let putWordsAt = c .before .before in
     let if2At = putWordsAt .before .before in
     let if1At = if2At .before in
-    let entry = if1At .before .before .before .before .before .before .before .before in
+    let entry = if1At .before .before .before .before .before .before .before .before .before in
     let a = entry .args in
-    way-counts (given (a .inputs) (now (a .counts)) (now (a .nexts)) (now (a .gates)) (now (a .sizes)) (now (a .roots))) (now (a .out)) (now (a .answer))
+    way-counts (given (a .inputs) (now (a .counts)) (now (a .nexts)) (now (a .resets)) (now (a .gates)) (now (a .sizes)) (now (a .roots))) (now (a .out)) (now (a .answer))
     (if1At .if1 .left) (if2At .if2 .taken) _ (putWordsAt .put-words .ensures)
 
 shape-of-requires : tie.Need-shape-of-requires
@@ -61,13 +61,13 @@ returns-3 c =
     let shapeOfAt = writeAt .before .before in
     let if2At = shapeOfAt .before in
     let if1At = if2At .before in
-    let entry = if1At .before .before .before .before .before .before .before .before in
+    let entry = if1At .before .before .before .before .before .before .before .before .before in
     let a = entry .args in
     let with : Shape → Words =
-    λ (o : Shape). given (o .inputs) (o .counts) (now (a .nexts)) (now (a .gates)) (now (a .sizes)) (now (a .roots)) in
+    λ (o : Shape). given (o .inputs) (o .counts) (now (a .nexts)) (now (a .resets)) (now (a .gates)) (now (a .sizes)) (now (a .roots)) in
     let said = writeAt .write in
-    let bytesLeft = said .last .1 .1 .1 .1 .1 .0 in
-    way-written (given (a .inputs) (now (a .counts)) (now (a .nexts)) (now (a .gates)) (now (a .sizes)) (now (a .roots))) (now (a .out)) (now (a .answer))
+    let bytesLeft = said .last .1 .1 .1 .1 .1 .1 .0 in
+    way-written (given (a .inputs) (now (a .counts)) (now (a .nexts)) (now (a .resets)) (now (a .gates)) (now (a .sizes)) (now (a .roots))) (now (a .out)) (now (a .answer))
     (if1At .if1 .left) (if2At .if2 .left) (with (shapeOfAt .shape-of .result)) (ap with (shapeOfAt .shape-of .ensures)) (wrote (said .result) bytesLeft)
     (said .ensures) _ _ (putAnswerAt .put-answer .ensures)
 

@@ -31,6 +31,9 @@ enum-known-why-4 c = c .match .keys7
 enum-known-why-5 : tie.Need-enum-known-why-5
 enum-known-why-5 c = c .match .keys8
 
+enum-known-why-6 : tie.Need-enum-known-why-6
+enum-known-why-6 c = c .match .keys9
+
 returns : tie.Need-returns
 returns c = c .before .before .from-code .ensures ∙ sym (ap refusalLiteral (c .enum-told .given .1))
 
@@ -55,6 +58,9 @@ returns-7 c = sym (ap refusalLiteral (c .before .why4 .given .1))
 returns-8 : tie.Need-returns-8
 returns-8 c = sym (ap refusalLiteral (c .before .why5 .given .1))
 
+returns-9 : tie.Need-returns-9
+returns-9 c = sym (ap refusalLiteral (c .before .why6 .given .1))
+
 pub literal-spec : {M : Type 1} → statement M
 literal-spec =
     tie.close
@@ -68,6 +74,7 @@ literal-spec =
     enum-known-why-3
     enum-known-why-4
     enum-known-why-5
+    enum-known-why-6
     returns
     returns-2
     returns-3
@@ -75,4 +82,5 @@ literal-spec =
     returns-5
     returns-6
     returns-7
-    returns-8)
+    returns-8
+    returns-9)

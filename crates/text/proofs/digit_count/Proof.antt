@@ -1,11 +1,11 @@
--- `text::digit_count` meets its contract: a turn of the loop counts five digits. Assumes nothing.
+-- `text::digit_count` meets its contract: a turn of the loop counts seven digits. Assumes nothing.
 use borrow.Author.Needs.{needs}
 use mathlib.Core.Path.{_≡_}
 use Prim.Native.Nat.{_+_, _≤_}
 use native.Mathlib.Omega.{arith}
 use lib.ListN.{length}
 use Rattle.token.specs.Format.{digitsOf}
-use Rattle.text.proofs.Digits.{digits-few, count-five}
+use Rattle.text.proofs.Digits.{digits-few, count-seven}
 use Rattle.text.proofs.digit_count.Statement.{statement}
 use Rattle.text.proofs.digit_count.Tie as tie
 
@@ -25,7 +25,7 @@ loop-less : tie.Need-loop-less Inv-loop μ-loop
 loop-less c = search needs
 
 loop-again : tie.Need-loop-again Inv-loop μ-loop
-loop-again c = (omega arith, omega (arith, count-five (c .before .loop .rest) (omega arith) (omega arith)))
+loop-again c = (omega arith, omega (arith, count-seven (c .before .loop .rest) (omega arith) (omega arith)))
 
 few-digits-requires : tie.Need-few-digits-requires Inv-loop μ-loop
 few-digits-requires c κs = search needs

@@ -1,13 +1,14 @@
 //! AIGER files, text and binary: a reader and a writer of our own, after the papers. Symbols and comments are left out. On what is no AIGER
 //! file it panics.
-use flussab_aiger::{aig::Aig, ascii, binary};
-use judge::circuit::{put, Circuit};
+use flussab_aiger::{
+    aig::{Aig, Latch},
+    ascii, binary,
+};
+use judge::circuit::{put, reset, start, Circuit};
 
 /// A circuit, and what renumbering leaves to its caller.
 pub struct File {
     pub circuit: Circuit,
-    /// Each latch's first value, or none where it may be either.
-    pub resets: Vec<Option<bool>>,
     /// How many literals each justice property has.
     pub justice: Vec<u64>,
 }
@@ -15,11 +16,22 @@ pub struct File {
 impl File {
     /// All that was read, as numbers.
     pub fn numbers(&self) -> Vec<u64> {
-        let resets = self.resets.iter().map(|reset| reset.map_or(2, u64::from));
-        let mut numbers = self.circuit.numbers();
-        numbers.extend(resets.chain(self.justice.iter().copied()));
+        let mut numbers = numbers(&self.circuit);
+        numbers.extend(&self.justice);
         numbers
     }
+
+    /// What each latch starts at, none where it may be either.
+    pub fn starts(&self) -> Vec<Option<bool>> {
+        self.circuit.latches.iter().map(|&[state, _, reset]| start(state, reset)).collect()
+    }
+}
+
+/// All of a circuit: sizes, flags and codes, resets too.
+pub fn numbers(circuit: &Circuit) -> Vec<u64> {
+    let mut numbers = circuit.header();
+    numbers.extend(circuit.codes());
+    numbers
 }
 
 /// A place in a file.
@@ -45,16 +57,14 @@ impl Reader<'_> {
     }
 
     /// A latch with the state given, or named on its line, and its reset.
-    fn latch(&mut self, given: Option<u64>) -> ([u64; 2], Option<bool>) {
+    fn latch(&mut self, given: Option<u64>) -> [u64; 3] {
         let mut line = self.line();
         line.splice(0..0, given);
-        let reset = match line[2..] {
-            [] | [0] => Some(false),
-            [1] => Some(true),
-            [own] if own == line[0] => None,
+        match line[..] {
+            [state, next] => [state, next, 0],
+            [state, next, reset] if reset < 2 || reset == state => [state, next, reset],
             _ => panic!("a latch's reset is 0, 1 or its state: {line:?}"),
-        };
-        ([line[0], line[1]], reset)
+        }
     }
 
     /// A number in groups of seven bits, low first.
@@ -85,7 +95,7 @@ pub fn read(bytes: &[u8]) -> File {
 
     let inputs = if binary { (1..=i).map(|v| 2 * v).collect() } else { reader.column(i) };
     let state = |k| binary.then_some(2 * (i + 1 + k));
-    let (latches, resets) = (0..l).map(|k| reader.latch(state(k))).unzip();
+    let latches = (0..l).map(|k| reader.latch(state(k))).collect();
     let [outputs, bad, constraints] = [o, b, c].map(|count| reader.column(count));
     let justice = reader.column(j);
     let literals = reader.column(justice.iter().sum());
@@ -97,7 +107,7 @@ pub fn read(bytes: &[u8]) -> File {
     let gates = (0..g).map(gate).collect();
     let roots = [outputs, bad, constraints, fairness, literals];
     let circuit = Circuit { largest, inputs, gates, latches, roots, flags: 0 };
-    let file = File { circuit, resets, justice };
+    let file = File { circuit, justice };
     assert!(file.numbers() == read_by_crate(&bytes[..reader.place], binary).numbers(), "the crate reads something else");
     file
 }
@@ -111,7 +121,6 @@ fn read_by_crate(bytes: &[u8], binary: bool) -> File {
     .expect("the crate reads the file");
     File {
         circuit: circuit_of(&aig),
-        resets: aig.latches.iter().map(|latch| latch.initialization).collect(),
         justice: aig.justice_properties.iter().map(|list| list.len() as u64).collect(),
     }
 }
@@ -119,11 +128,15 @@ fn read_by_crate(bytes: &[u8], binary: bool) -> File {
 /// The lists of the crate's record.
 pub fn circuit_of(aig: &Aig<u32>) -> Circuit {
     let codes = |list: &[u32]| list.iter().map(|&code| code as u64).collect::<Vec<u64>>();
+    let latch = |latch: &Latch<u32>| {
+        let [state, next] = [latch.state, latch.next_state].map(u64::from);
+        [state, next, reset(state, latch.initialization)]
+    };
     Circuit {
         largest: aig.max_var_index as u64,
         inputs: codes(&aig.inputs),
         gates: aig.and_gates.iter().map(|gate| [gate.output, gate.inputs[0], gate.inputs[1]].map(u64::from)).collect(),
-        latches: aig.latches.iter().map(|latch| [latch.state, latch.next_state].map(u64::from)).collect(),
+        latches: aig.latches.iter().map(latch).collect(),
         roots: [
             codes(&aig.outputs),
             codes(&aig.bad_state_properties),
@@ -135,7 +148,8 @@ pub fn circuit_of(aig: &Aig<u32>) -> Circuit {
     }
 }
 
-/// The binary form of a circuit whose variables are numbered in order: inputs, latches, gates, each gate above its inputs.
+/// The binary form of a circuit whose variables are numbered in order: inputs, latches, gates, each gate above its inputs. Every count and every reset is
+/// spelled.
 pub fn write(file: &File) -> Vec<u8> {
     let Circuit { largest, inputs, gates, latches, roots, .. } = &file.circuit;
     let states = latches.iter().map(|latch| latch[0]);
@@ -146,8 +160,8 @@ pub fn write(file: &File) -> Vec<u8> {
     let mut text = format!("aig {largest}");
     text.extend(counts.map(|count| format!(" {count}")));
     text.push('\n');
-    for ([state, next], reset) in latches.iter().zip(&file.resets) {
-        text += &format!("{next} {}\n", reset.map_or(*state, u64::from));
+    for [_, next, reset] in latches {
+        text += &format!("{next} {reset}\n");
     }
     for code in [outputs, bad, constraints, &file.justice, justice, fairness].into_iter().flatten() {
         text += &format!("{code}\n");

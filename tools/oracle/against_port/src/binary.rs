@@ -16,10 +16,10 @@ use judge::{
 };
 use std::{collections::BTreeMap, process::exit};
 
-/// How much longer than they have to be lists are lent (shorter, where it is negative): next states, gates, sizes, roots, the answer.
+/// How much longer than they have to be lists are lent (shorter, where it is negative): next states, resets, gates, sizes, roots, the answer.
 #[derive(Clone, Copy)]
 pub struct Spare {
-    words: [isize; 5],
+    words: [isize; 6],
     asked: Asked,
 }
 
@@ -32,8 +32,8 @@ enum Asked {
 }
 
 const MOST: usize = 20_000;
-const EXACT: Spare = Spare { words: [0; 5], asked: Asked::Near };
-const NEVER_SHORT: Room = [LIMIT as usize, 2 * LIMIT as usize, LIMIT as usize, LIMIT as usize];
+const EXACT: Spare = Spare { words: [0; 6], asked: Asked::Near };
+const NEVER_SHORT: Room = [LIMIT as usize, LIMIT as usize, 2 * LIMIT as usize, LIMIT as usize, LIMIT as usize];
 
 /// Files longer than this are read and expanded, and not renumbered.
 const LONG: usize = 100_000;
@@ -43,19 +43,19 @@ const PROGRESS: u64 = 1_000_000;
 
 impl Spare {
     fn any(random: &mut Random) -> Spare {
-        let mut words = [(); 5].map(|()| random.below(3) as isize);
+        let mut words = [(); 6].map(|()| random.below(3) as isize);
         match random.below(100) {
-            0..=3 => words[random.index(4)] = -1,
-            4 => words[random.index(4)] = isize::MIN,
-            5 => words[random.index(4)] = 40,
-            6 => words[4] = -(random.between(1, ANSWER as u64) as isize),
+            0..=3 => words[random.index(5)] = -1,
+            4 => words[random.index(5)] = isize::MIN,
+            5 => words[random.index(5)] = 40,
+            6 => words[5] = -(random.between(1, ANSWER as u64) as isize),
             _ => {}
         }
         let asked = random.below(200);
         Spare { words, asked: if asked == 0 { Asked::All } else { Asked::Near } }
     }
 
-    /// The lengths of the four lists, and that of the answer.
+    /// The lengths of the five lists, and that of the answer.
     fn lengths(&self, bytes: &[u8]) -> (Room, usize) {
         let mut room = match self.asked {
             Asked::Near => needed(bytes).map(|words| words.min(MOST)),
@@ -65,7 +65,7 @@ impl Spare {
         for (length, spare) in room.iter_mut().zip(self.words) {
             *length = length.saturating_add_signed(spare);
         }
-        (room, ANSWER.saturating_add_signed(self.words[4]))
+        (room, ANSWER.saturating_add_signed(self.words[5]))
     }
 }
 
@@ -88,7 +88,7 @@ impl Tally {
         if self.files % PROGRESS == 0 {
             eprintln!("  {} files so far, no difference that is not listed", self.files);
         }
-        if spare.words[4] < 0 {
+        if spare.words[5] < 0 {
             self.short_answers += 1;
             return;
         }
@@ -140,7 +140,7 @@ fn check(bytes: &[u8], spare: Spare) -> Result<Compared, String> {
 
 /// Expands what was read, into lists of the length that is needed, longer, and one word short.
 fn expand(circuit: &Ordered, port: &Outcome, spare: Spare) -> Result<Expanded, String> {
-    let gates = &port.lists[1][..circuit.gates.len()];
+    let gates = &port.lists[2][..circuit.gates.len()];
     let compact = Compact { inputs: circuit.inputs as u32, latches: circuit.nexts.len() as u32, gates };
     let needed = reading::needed_for_expansion(&compact);
     let mut last = None;
@@ -163,12 +163,12 @@ fn expand(circuit: &Ordered, port: &Outcome, spare: Spare) -> Result<Expanded, S
 fn circuit_of(circuit: &Ordered, port: &Outcome, expanded: Expanded, flags: u64) -> Circuit {
     let [inputs, states, triples] = expanded.lists;
     let wide = |list: &[u32]| list.iter().map(|&word| word as u64).collect::<Vec<u64>>();
-    let mut roots = port.lists[3].iter().map(|&root| root as u64);
+    let mut roots = port.lists[4].iter().map(|&root| root as u64);
     Circuit {
         largest: circuit.top,
         inputs: wide(&inputs),
         gates: triples.chunks(3).map(|gate| [gate[0], gate[1], gate[2]].map(u64::from)).collect(),
-        latches: states.iter().zip(&port.lists[0]).map(|(&state, &next)| [state, next].map(u64::from)).collect(),
+        latches: states.iter().zip(port.lists[0].iter().zip(&port.lists[1])).map(|(&state, (&next, &reset))| [state, next, reset].map(u64::from)).collect(),
         roots: circuit.counts.map(|count| roots.by_ref().take(count as usize).collect()),
         flags,
     }
@@ -178,11 +178,13 @@ fn circuit_of(circuit: &Ordered, port: &Outcome, expanded: Expanded, flags: u64)
 fn renumber(circuit: &Ordered, port: &Outcome, expanded: Expanded, flags: u64) -> Result<(), String> {
     let given = circuit_of(circuit, port, expanded, flags);
     let by_crate = Circuit { flags, ..aiger::circuit_of(&file_crate::record(circuit)) };
-    if given.numbers() != by_crate.numbers() {
-        return Err(format!("expanded by the port: {:?}; by the crate: {:?}", given.numbers(), by_crate.numbers()));
+    let [numbers, expected] = [&given, &by_crate].map(aiger::numbers);
+    if numbers != expected {
+        return Err(format!("expanded by the port: {numbers:?}; by the crate: {expected:?}"));
     }
-    let lists = Lists::lent(&given, [1; 5]);
-    let (port, judge) = (outcome::by_port(&given, lists.clone()), outcome::by_crate(&given, lists));
+    let spare = outcome::Spare::of(1);
+    let lists = Lists::lent(&given, spare);
+    let (port, judge) = (outcome::by_port(&given, spare, lists.clone()), outcome::by_crate(&given, spare, lists));
     match (port == judge, port.number) {
         (true, 0) => Ok(()),
         (true, number) => Err(format!("read, and refused by {number} in renumbering")),
@@ -230,9 +232,9 @@ pub fn small(tally: &mut Tally) {
 /// A file in lists that are as long as they must be, in longer ones, and with each of them one word short.
 fn in_every_length(tally: &mut Tally, bytes: &[u8]) {
     tally.compare(bytes, EXACT);
-    tally.compare(bytes, Spare { words: [3, 2, 1, 2, 1], ..EXACT });
-    for list in 0..5 {
-        let mut words = [0; 5];
+    tally.compare(bytes, Spare { words: [3, 1, 2, 1, 2, 1], ..EXACT });
+    for list in 0..6 {
+        let mut words = [0; 6];
         words[list] = -1;
         tally.compare(bytes, Spare { words, ..EXACT });
     }
@@ -243,7 +245,7 @@ pub fn large(tally: &mut Tally) {
     file_kinds::large(&mut Random(1), |bytes| {
         tally.compare(bytes, Spare { asked: Asked::Never, ..EXACT });
         tally.compare(bytes, Spare { asked: Asked::All, ..EXACT });
-        tally.compare(bytes, Spare { words: [0, 0, 0, -1, 0], asked: Asked::All });
+        tally.compare(bytes, Spare { words: [0, 0, 0, 0, -1, 0], asked: Asked::All });
     });
 }
 
@@ -278,7 +280,7 @@ pub fn expansions(mut random: Random, count: u64) {
 
 /// A real file, all of it: read by the port as by the crate and by the words, and expanded to the circuit that is given, which comes of a reader of its own.
 pub fn whole(bytes: &[u8], given: &Circuit) -> usize {
-    let spare = Spare { words: [1; 5], asked: Asked::All };
+    let spare = Spare { words: [1; 6], asked: Asked::All };
     let (room, answer) = spare.lengths(bytes);
     let found = compare(bytes, AMPLE).unwrap_or_else(|what| panic!("{what}"));
     assert!(found.line.is_none(), "the crate reads the file otherwise: {:?}", found.line);
@@ -287,7 +289,7 @@ pub fn whole(bytes: &[u8], given: &Circuit) -> usize {
     let (port, words) = (by_port(bytes, lent.clone()), by_words(&found.request, lent));
     assert!(port == words, "{}", reading::difference(&port, &words));
     let expanded = expand(circuit, &port, spare).unwrap_or_else(|what| panic!("{what}"));
-    let numbers = circuit_of(circuit, &port, expanded, given.flags).numbers();
-    assert!(numbers == given.numbers(), "the port reads another circuit");
+    let read = circuit_of(circuit, &port, expanded, given.flags);
+    assert!(aiger::numbers(&read) == aiger::numbers(given), "the port reads another circuit");
     *used
 }

@@ -3,7 +3,7 @@
 use crate::{
     aiger::{self, File},
     binary,
-    outcome::{by_crate, by_port, difference, Lists, Outcome},
+    outcome::{by_crate, by_port, difference, Lists, Outcome, Spare},
     writing,
 };
 use judge::{circuit::Circuit, random::Random, write_words::plain};
@@ -17,7 +17,8 @@ pub fn compare(path: &str, folder: &str, seed: u64) {
     let file = aiger::read(&bytes);
     let Circuit { largest, inputs, gates, latches, roots, .. } = &file.circuit;
     let counts = roots.each_ref().map(Vec::len);
-    let resets = [Some(false), Some(true), None].map(|value| file.resets.iter().filter(|&&reset| reset == value).count());
+    let starts = file.starts();
+    let resets = [Some(false), Some(true), None].map(|value| starts.iter().filter(|&&start| start == value).count());
     println!("V={largest}, {} inputs, {} latches, {} gates, roots {counts:?}, resets {resets:?}", inputs.len(), latches.len(), gates.len());
     if bytes.starts_with(b"aig ") {
         let used = binary::whole(&bytes, &file.circuit);
@@ -43,19 +44,22 @@ pub fn compare(path: &str, folder: &str, seed: u64) {
 /// One outcome, compared and written: the number of gates made.
 fn one(file: &File, circuit: &Circuit, order: &str, flags: u64, folder: &str) -> u32 {
     let circuit = Circuit { flags, ..circuit.clone() };
-    let lists = Lists::lent(&circuit, [1; 5]);
-    let (port, judge) = (by_port(&circuit, lists.clone()), by_crate(&circuit, lists));
+    let spare = Spare::of(1);
+    let lists = Lists::lent(&circuit, spare);
+    let (port, judge) = (by_port(&circuit, spare, lists.clone()), by_crate(&circuit, spare, lists));
     if port != judge {
         println!("DIFFERS: {order}, flags {flags}: {}", difference(port, judge));
         exit(1);
     }
     assert_eq!(port.number, 0, "a file's circuit can be ordered");
-    let ordered = File { circuit: ordered(&circuit, &port), resets: file.resets.clone(), justice: file.justice.clone() };
+    let ordered = File { circuit: ordered(&circuit, &port), justice: file.justice.clone() };
+    assert!(ordered.starts() == file.starts(), "each latch starts as it did");
     let path = Path::new(folder).join(format!("{order}-{flags}.aig"));
-    // with resets and every count, by a writer of our own, which is read; and by the port, for abc
+    // with every reset and count, by a writer of our own, which is read; and by the port, for abc
     binary::whole(&aiger::write(&ordered), &ordered.circuit);
     let written = writing::whole(&ordered);
     binary::whole(&written, &ordered.circuit);
+    assert!(aiger::read(&written).starts() == file.starts(), "each latch of what is written starts as it did");
     fs::write(path, written).expect("the file can be written");
     port.words[1]
 }
@@ -69,7 +73,7 @@ fn ordered(circuit: &Circuit, outcome: &Outcome) -> Circuit {
     Circuit {
         largest,
         inputs: (1..=i).map(|v| 2 * v).collect(),
-        latches: (i + 1..=i + l).zip(&lists.next_images).map(|(v, &next)| [2 * v, next as u64]).collect(),
+        latches: (i + 1..=i + l).zip(lists.next_images.iter().zip(&lists.reset_images)).map(|(v, (&next, &reset))| [2 * v, next as u64, reset as u64]).collect(),
         gates: (i + l + 1..=i + l + made).zip(lists.gates_out.chunks(2)).map(|(v, pair)| [2 * v, pair[0] as u64, pair[1] as u64]).collect(),
         roots: circuit.roots.each_ref().map(|list| images.by_ref().take(list.len()).collect()),
         flags: 0,
@@ -87,6 +91,7 @@ fn renamed(circuit: &Circuit, random: &mut Random, signs: bool) -> Circuit {
     }
     names.insert(0, 0);
     let mut renamed = Circuit { largest, ..circuit.clone() };
+    // a reset that is 0 or 1 stays, as the constant does, and one that is the latch's own literal is renamed as that is
     for code in renamed.codes_mut() {
         *code = names[*code as usize / 2] ^ *code % 2;
     }
@@ -99,16 +104,23 @@ fn renamed(circuit: &Circuit, random: &mut Random, signs: bool) -> Circuit {
     renamed
 }
 
-/// Writes an ordered file again with one literal flipped: the first latch's next state, the last root, or the last gate's second input.
+/// Writes an ordered file again with one literal flipped: the first latch's next state, the last root, or the last gate's second input. A latch's reset that is
+/// flipped is 1 where it was 0, and else 0.
 pub fn flip(path: &str, which: &str, to: &str) {
     let mut file = aiger::read(&fs::read(path).expect("the file can be read"));
     let circuit = &mut file.circuit;
+    if which == "reset" {
+        let latch = circuit.latches.first_mut().expect("a latch");
+        // what is flipped below is the low bit of 0 or 1
+        latch[2] = latch[2].min(1);
+    }
     let literal = match which {
+        "reset" => circuit.latches.first_mut().map(|latch| &mut latch[2]),
         "next" => circuit.latches.first_mut().map(|latch| &mut latch[1]),
         "root" => circuit.roots.iter_mut().flatten().last(),
         "gate" => circuit.gates.last_mut().map(|gate| &mut gate[2]),
         _ => None,
     };
-    *literal.expect("a next state, a root or a gate") ^= 1;
+    *literal.expect("a next state, a reset, a root or a gate") ^= 1;
     fs::write(to, aiger::write(&file)).expect("the file can be written");
 }

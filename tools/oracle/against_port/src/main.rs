@@ -13,7 +13,7 @@
 //!     against_port write large                   ordered circuits at the limits and one over, written
 //!     against_port write trips SEED COUNT MAXGATES   files read and written again
 //!     against_port file FILE FOLDER SEED         an AIGER file in three orders, with all flags; writes FOLDER/ORDER-FLAGS.aig as the port ordered it
-//!     against_port flip FILE WHICH TO            the file with one literal flipped: of a next state, a root or a gate (WHICH)
+//!     against_port flip FILE WHICH TO            the file with one literal flipped: of a next state, a reset, a root or a gate (WHICH)
 //!
 //! Prints how many of each answer there were. At the first difference it prints the smallest circuit it can shrink it to and ends with 1.
 mod aiger;
@@ -25,7 +25,7 @@ mod shrink;
 mod writing;
 
 use judge::{circuit::Circuit, circuit_kinds, random::Random};
-use outcome::{by_crate, by_port, Lists};
+use outcome::{by_crate, by_port, Lists, Spare};
 use std::{collections::BTreeMap, process::exit};
 
 #[derive(Default)]
@@ -38,13 +38,13 @@ struct Tally {
 const PROGRESS: u64 = 5_000_000;
 
 impl Tally {
-    fn compare(&mut self, circuit: &Circuit, spare: [isize; 5]) {
+    fn compare(&mut self, circuit: &Circuit, spare: Spare) {
         let differ = |circuit: &Circuit| {
             let lists = Lists::lent(circuit, spare);
-            by_port(circuit, lists.clone()) != by_crate(circuit, lists)
+            by_port(circuit, spare, lists.clone()) != by_crate(circuit, spare, lists)
         };
         let lists = Lists::lent(circuit, spare);
-        let (port, judge) = (by_port(circuit, lists.clone()), by_crate(circuit, lists));
+        let (port, judge) = (by_port(circuit, spare, lists.clone()), by_crate(circuit, spare, lists));
         if port != judge {
             // what is too large to be shrunk is told by its sizes and its first word
             match circuit.codes().len() {
@@ -61,7 +61,7 @@ impl Tally {
     }
 }
 
-fn show(circuit: &Circuit, spare: [isize; 5]) {
+fn show(circuit: &Circuit, spare: Spare) {
     let lists = Lists::lent(circuit, spare);
     let Circuit {
         largest,
@@ -72,8 +72,8 @@ fn show(circuit: &Circuit, spare: [isize; 5]) {
         flags,
     } = circuit;
     println!("DIFFERS V={largest} inputs {inputs:?} gates {gates:?} latches {latches:?} roots {roots:?} flags {flags} spare {spare:?}");
-    println!("  the port:  {:?}", by_port(circuit, lists.clone()));
-    println!("  the crate: {:?}", by_crate(circuit, lists));
+    println!("  the port:  {:?}", by_port(circuit, spare, lists.clone()));
+    println!("  the crate: {:?}", by_crate(circuit, spare, lists));
 }
 
 fn main() {
@@ -139,38 +139,51 @@ fn written(run: &[&str]) {
     tally.tell(&format!("write {}", run.join(" ")));
 }
 
-/// Every circuit of up to two gates over an input, with a root, and of up to one gate with a latch too; all codes of V = G + 2, or of V = G + 3 beside a latch,
-/// so of a variable more than need be defined: outputs, states, inputs, next states and roots.
+/// Every circuit of up to two gates over an input, with a root, of up to one gate with a latch too, and of two latches with trim on and all else off; all codes of
+/// V = G + 2 and a variable more for each latch, so of a variable more than need be defined: outputs, states, inputs, next states and roots. A latch's reset is 0, 1,
+/// its own literal, that negated, or beside no gate a code that is over; with one latch and no gate any code, and one over.
 fn small(tally: &mut Tally) {
     for flags in 0..8 {
         for gates in 0..=2 {
-            every(tally, gates, 0, flags);
+            every(tally, gates, 0, flags, 1);
         }
-        for gates in 0..=1 {
-            every(tally, gates, 1, flags);
-        }
+        every(tally, 0, 1, flags, 9);
+        every(tally, 1, 1, flags, 4);
     }
+    every(tally, 0, 2, 1, 5);
 }
 
-fn every(tally: &mut Tally, gates: u32, latches: u32, flags: u64) {
+/// Every circuit of these sizes, with as many choices of resets: all codes and one over, or 0, 1, the latch, that negated and one over, or the first four.
+fn every(tally: &mut Tally, gates: u32, latches: u32, flags: u64, resets: u64) {
     let largest = (gates + latches) as u64 + 2;
     let bound = 2 * largest + 2;
-    for choice in 0..bound.pow(3 * gates + 2 * latches + 1) {
+    let reset = |choice: u64, own: u64| match choice {
+        _ if resets > 5 => choice,
+        2 => own,
+        3 => own ^ 1,
+        4 => bound,
+        _ => choice,
+    };
+    for choice in 0..bound.pow(3 * gates + 2 * latches + 1) * resets.pow(latches) {
         let mut rest = choice;
-        let mut next = || {
+        let mut next = |bound: u64| {
             let code = rest % bound;
             rest /= bound;
             code
         };
+        let mut latch = |_| {
+            let (state, step) = (next(bound), next(bound));
+            [state, step, reset(next(resets), state)]
+        };
         let circuit = Circuit {
             largest,
             inputs: vec![2],
-            gates: (0..gates).map(|_| [next(), next(), next()]).collect(),
-            latches: (0..latches).map(|_| [next(), next()]).collect(),
-            roots: [vec![next()], vec![], vec![], vec![], vec![]],
+            latches: (0..latches).map(&mut latch).collect(),
+            gates: (0..gates).map(|_| [next(bound), next(bound), next(bound)]).collect(),
+            roots: [vec![next(bound)], vec![], vec![], vec![], vec![]],
             flags,
         };
-        tally.compare(&circuit, [1; 5]);
+        tally.compare(&circuit, Spare::of(1));
     }
 }
 
@@ -178,6 +191,7 @@ fn of_every_kind(random: &mut Random, gates: u64) -> Circuit {
     let mut circuit = circuit_kinds::valid(random, gates);
     let (_, _, fault) = random.pick(&circuit_kinds::FAULTS);
     fault(random, &mut circuit);
+    circuit_kinds::with_resets(random, &mut circuit);
     circuit
 }
 
@@ -187,6 +201,7 @@ fn sharing(random: &mut Random, gates: u64) -> Circuit {
         let (_, _, fault) = random.pick(&circuit_kinds::FAULTS);
         fault(random, &mut circuit);
     }
+    circuit_kinds::with_resets(random, &mut circuit);
     circuit
 }
 
@@ -198,10 +213,7 @@ fn random(tally: &mut Tally, mut random: Random, count: u64, gates: u64, make: f
             continue;
         }
         made += 1;
-        let mut spare = [(); 5].map(|()| random.below(3) as isize);
-        if random.percent(3) {
-            spare[random.index(5)] = -1;
-        }
+        let spare = Spare::any(&mut random);
         tally.compare(&circuit, spare);
     }
 }
@@ -232,7 +244,7 @@ fn large(tally: &mut Tally) {
                 largest: size,
                 ..Circuit::default()
             },
-            [0; 5],
+            Spare::of(0),
         );
         tally.compare(
             &Circuit {
@@ -240,37 +252,55 @@ fn large(tally: &mut Tally) {
                 inputs: (1..=size).map(|v| 2 * v.min(LIMIT)).collect(),
                 ..Circuit::default()
             },
-            [0; 5],
+            Spare::of(0),
         );
         tally.compare(
             &Circuit {
                 largest: LIMIT,
                 latches: (1..=size)
-                    .map(|v| [2 * v.min(LIMIT), 2 * v.min(LIMIT) + 1])
+                    .map(|v| [2 * v.min(LIMIT), 2 * v.min(LIMIT) + 1, [0, 1, 2 * v.min(LIMIT)][v as usize % 3]])
                     .collect(),
                 ..Circuit::default()
             },
-            [0; 5],
+            Spare::of(0),
         );
+        // more next states or resets than there may be latches: too many for the latch that there is, and no size of its own
+        for read in [[LIMIT as isize, 0, 0], [0, LIMIT as isize, 0]] {
+            let circuit = Circuit { largest: size, latches: vec![[2, 3, 1]], ..Circuit::default() };
+            tally.compare(&circuit, Spare { read, ..Spare::of(0) });
+        }
+        // odd states, of which each is unset; in one circuit the last reset is the negated literal
+        for last in [0, 1] {
+            let mut latches: Vec<[u64; 3]> = (1..=LIMIT).rev().map(|v| [2 * v + 1, 0, 2 * v + 1]).collect();
+            latches.last_mut().unwrap()[2] ^= last;
+            tally.compare(
+                &Circuit {
+                    largest: LIMIT,
+                    latches,
+                    ..Circuit::default()
+                },
+                Spare::of(1),
+            );
+        }
         tally.compare(
             &Circuit {
                 largest: LIMIT,
                 gates: (1..=size).map(|v| [2 * v.min(LIMIT), 0, 1]).collect(),
                 ..Circuit::default()
             },
-            [0; 5],
+            Spare::of(0),
         );
         tally.compare(
             &Circuit {
                 roots: [vec![1; size as usize], vec![], vec![], vec![], vec![]],
                 ..Circuit::default()
             },
-            [0; 5],
+            Spare::of(0),
         );
     }
     for flags in 0..8 {
         // a chain a million gates deep, from its far end
-        tally.compare(&chain(LIMIT - 1, 2 * LIMIT, 2, flags), [1; 5]);
+        tally.compare(&chain(LIMIT - 1, 2 * LIMIT, 2, flags), Spare::of(1));
         // one node with a million fan-outs, as the larger input and as the smaller
         for node in [2 * LIMIT, 2] {
             let source = if node == 2 { 1 } else { LIMIT };
@@ -286,7 +316,7 @@ fn large(tally: &mut Tally) {
                     flags,
                     ..Circuit::default()
                 },
-                [1; 5],
+                Spare::of(1),
             );
         }
     }
@@ -301,17 +331,17 @@ fn large(tally: &mut Tally) {
     for flags in 0..8 {
         // over 524,287 other inputs; over both signs of 262,144, and then the oldest gate again and again
         let many: Vec<(u64, u64)> = (1..LIMIT / 2).map(|v| (0, 2 * v)).collect();
-        tally.compare(&under(LIMIT / 2 + 1, &many, flags), [1; 5]);
+        tally.compare(&under(LIMIT / 2 + 1, &many, flags), Spare::of(1));
         let mut both: Vec<(u64, u64)> = (1..262_144).flat_map(|v| [(0, 2 * v), (1, 2 * v + 1)]).collect();
         both.resize((LIMIT - 262_144) as usize, (0, 2));
-        tally.compare(&under(262_144, &both, flags), [1; 5]);
+        tally.compare(&under(262_144, &both, flags), Spare::of(1));
         // keys that agree with one of 22 bits in ever more of them, that one itself, its twin with the other sign, and all of them again
         let (sign, smaller) = (flags % 2, 0x15_5554 + flags);
         let mut deep: Vec<(u64, u64)> = (0..21).map(|bit| (sign, smaller ^ 1 << bit)).collect();
         deep.insert(0, (1 - sign, smaller ^ 1));
         deep.extend([(sign, smaller), (1 - sign, smaller)]);
         deep.extend(deep.clone());
-        tally.compare(&under(LIMIT - 48, &deep, flags), [1; 5]);
+        tally.compare(&under(LIMIT - 48, &deep, flags), Spare::of(1));
     }
     for gates in [1, 2, 3, 10, 1_000, LIMIT] {
         // a cycle that fills the stack of 2G entries: a chain into a gate that feeds itself negated
@@ -323,6 +353,6 @@ fn large(tally: &mut Tally) {
             flags: 1,
             ..Circuit::default()
         };
-        tally.compare(&circuit, [1; 5]);
+        tally.compare(&circuit, Spare::of(1));
     }
 }

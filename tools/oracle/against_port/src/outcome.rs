@@ -2,6 +2,7 @@
 use flussab_aiger::aig::{OrderedAig, Renumber};
 use judge::{
     circuit::Circuit,
+    random::Random,
     sheet::{self, Refused},
 };
 
@@ -13,6 +14,7 @@ const LIMIT: usize = 1_048_575;
 pub struct Lists {
     pub map: Vec<u32>,
     pub next_images: Vec<u32>,
+    pub reset_images: Vec<u32>,
     pub root_images: Vec<u32>,
     pub gates_out: Vec<u32>,
     pub scratch: Vec<u32>,
@@ -26,12 +28,40 @@ pub struct Outcome {
     pub lists: Lists,
 }
 
+/// How many words more (fewer, where it is negative) a list is lent than it has to have: the six lists that are written, and then those of next states, resets and
+/// gates, which are only read.
+#[derive(Clone, Copy, Debug, Default)]
+pub struct Spare {
+    pub written: [isize; 6],
+    pub read: [isize; 3],
+}
+
+impl Spare {
+    /// Each list that is written as long as it has to be and so many words more.
+    pub const fn of(words: isize) -> Spare {
+        Spare { written: [words; 6], read: [0; 3] }
+    }
+
+    /// Up to two words more, in some a word less, and in some a list that is read longer or shorter than its circuit has it.
+    pub fn any(random: &mut Random) -> Spare {
+        let mut spare = Spare { written: [(); 6].map(|()| random.below(3) as isize), read: [0; 3] };
+        if random.percent(3) {
+            spare.written[random.index(6)] = -1;
+        }
+        if random.percent(2) {
+            spare.read[random.index(3)] = random.pick(&[-2, -1, 1, 2]);
+        }
+        spare
+    }
+}
+
 /// How many words each list has to have.
-fn needed(circuit: &Circuit) -> [usize; 5] {
+fn needed(circuit: &Circuit) -> [usize; 6] {
     let (top, gates) = (circuit.largest as usize, circuit.gates.len());
     let roots = circuit.roots.iter().map(Vec::len).sum();
     [
         top + 1,
+        circuit.latches.len(),
         circuit.latches.len(),
         roots,
         2 * gates,
@@ -40,10 +70,10 @@ fn needed(circuit: &Circuit) -> [usize; 5] {
 }
 
 impl Lists {
-    /// Lists as long as they have to be and `spare` words more (fewer, where it is negative), filled with words that are easy to tell.
-    pub fn lent(circuit: &Circuit, spare: [isize; 5]) -> Lists {
+    /// Lists as long as they have to be and the spare words, filled with words that are easy to tell.
+    pub fn lent(circuit: &Circuit, spare: Spare) -> Lists {
         let list = |index: usize| {
-            let length = needed(circuit)[index].saturating_add_signed(spare[index]);
+            let length = needed(circuit)[index].saturating_add_signed(spare.written[index]);
             (0..length as u32)
                 .map(|word| 0xabcd_0000 ^ word.wrapping_mul(0x9e37) ^ (index as u32) << 20)
                 .collect()
@@ -51,16 +81,18 @@ impl Lists {
         Lists {
             map: list(0),
             next_images: list(1),
-            root_images: list(2),
-            gates_out: list(3),
-            scratch: list(4),
+            reset_images: list(2),
+            root_images: list(3),
+            gates_out: list(4),
+            scratch: list(5),
         }
     }
 
-    fn all(&mut self) -> [&mut Vec<u32>; 5] {
+    fn all(&mut self) -> [&mut Vec<u32>; 6] {
         [
             &mut self.map,
             &mut self.next_images,
+            &mut self.reset_images,
             &mut self.root_images,
             &mut self.gates_out,
             &mut self.scratch,
@@ -73,8 +105,8 @@ pub fn difference(port: Outcome, judge: Outcome) -> String {
     if (port.number, port.words) != (judge.number, judge.words) {
         return format!("the port answers {} {:?}, the crate {} {:?}", port.number, port.words, judge.number, judge.words);
     }
-    let lists = |Lists { map, next_images, root_images, gates_out, scratch }| [map, next_images, root_images, gates_out, scratch];
-    let names = ["map", "next_images", "root_images", "gates_out", "scratch"];
+    let lists = |Lists { map, next_images, reset_images, root_images, gates_out, scratch }| [map, next_images, reset_images, root_images, gates_out, scratch];
+    let names = ["map", "next_images", "reset_images", "root_images", "gates_out", "scratch"];
     for ((one, other), name) in lists(port.lists).into_iter().zip(lists(judge.lists)).zip(names) {
         if let Some(word) = (0..one.len()).find(|&word| one[word] != other[word]) {
             return format!("{name}[{word}]: the port {}, the crate {}", one[word], other[word]);
@@ -89,26 +121,27 @@ struct Flat {
     inputs: Vec<u32>,
     states: Vec<u32>,
     nexts: Vec<u32>,
+    resets: Vec<u32>,
     gates: Vec<u32>,
     roots: Vec<u32>,
 }
 
-fn flat(circuit: &Circuit) -> Flat {
+/// A list that is so many words longer or shorter.
+fn bent(mut list: Vec<u32>, words: isize) -> Vec<u32> {
+    list.resize(list.len().saturating_add_signed(words), 0);
+    list
+}
+
+fn flat(circuit: &Circuit, spare: Spare) -> Flat {
     let word = |&code: &u64| u32::try_from(code).expect("a code of 32 bits");
+    let latches = |part: usize| circuit.latches.iter().map(|latch| word(&latch[part])).collect();
     Flat {
         counts: [0, 1, 2, 3, 4].map(|index: usize| circuit.roots[index].len() as u32),
         inputs: circuit.inputs.iter().map(word).collect(),
-        states: circuit
-            .latches
-            .iter()
-            .map(|latch| word(&latch[0]))
-            .collect(),
-        nexts: circuit
-            .latches
-            .iter()
-            .map(|latch| word(&latch[1]))
-            .collect(),
-        gates: circuit.gates.iter().flatten().map(word).collect(),
+        states: latches(0),
+        nexts: bent(latches(1), spare.read[0]),
+        resets: bent(latches(2), spare.read[1]),
+        gates: bent(circuit.gates.iter().flatten().map(word).collect(), spare.read[2]),
         roots: circuit.roots.iter().flatten().map(word).collect(),
     }
 }
@@ -126,6 +159,8 @@ extern "C" {
         states_length: usize,
         nexts: *const u32,
         nexts_length: usize,
+        resets: *const u32,
+        resets_length: usize,
         gates: *const u32,
         gates_length: usize,
         roots: *const u32,
@@ -134,6 +169,8 @@ extern "C" {
         map_length: usize,
         next_images: *mut u32,
         next_images_length: usize,
+        reset_images: *mut u32,
+        reset_images_length: usize,
         root_images: *mut u32,
         root_images_length: usize,
         gates_out: *mut u32,
@@ -146,12 +183,13 @@ extern "C" {
 }
 
 /// What the port answers and leaves.
-pub fn by_port(circuit: &Circuit, mut lists: Lists) -> Outcome {
-    let flat = flat(circuit);
+pub fn by_port(circuit: &Circuit, spare: Spare, mut lists: Lists) -> Outcome {
+    let flat = flat(circuit, spare);
     let mut words = [0; 3];
     let read = |list: &[u32]| (list.as_ptr(), list.len());
     let (counts, inputs, states) = (read(&flat.counts), read(&flat.inputs), read(&flat.states));
-    let (nexts, gates, roots) = (read(&flat.nexts), read(&flat.gates), read(&flat.roots));
+    let (nexts, resets) = (read(&flat.nexts), read(&flat.resets));
+    let (gates, roots) = (read(&flat.gates), read(&flat.roots));
     let lent = lists.all().map(|list| (list.as_mut_ptr(), list.len()));
     // Each pointer and length is a whole Vec or array, and no two of those that are written overlap.
     let number = unsafe {
@@ -166,6 +204,8 @@ pub fn by_port(circuit: &Circuit, mut lists: Lists) -> Outcome {
             states.1,
             nexts.0,
             nexts.1,
+            resets.0,
+            resets.1,
             gates.0,
             gates.1,
             roots.0,
@@ -180,6 +220,8 @@ pub fn by_port(circuit: &Circuit, mut lists: Lists) -> Outcome {
             lent[3].1,
             lent[4].0,
             lent[4].1,
+            lent[5].0,
+            lent[5].1,
             words.as_mut_ptr(),
             words.len(),
         )
@@ -191,8 +233,8 @@ pub fn by_port(circuit: &Circuit, mut lists: Lists) -> Outcome {
     }
 }
 
-/// What document 01 says: its checks 1 to 3 and 6 and its buffers, and the crate for all else.
-pub fn by_crate(circuit: &Circuit, mut lists: Lists) -> Outcome {
+/// What the documents say: their checks 1 to 4, 22 and 6 and their buffers, and the crate for all else.
+pub fn by_crate(circuit: &Circuit, spare: Spare, mut lists: Lists) -> Outcome {
     let refused = |number: u64, literal: u64, lists: Lists| Outcome {
         number: number as u32,
         words: [literal as u32, 0, 0],
@@ -209,6 +251,11 @@ pub fn by_crate(circuit: &Circuit, mut lists: Lists) -> Outcome {
     if sizes.iter().any(|&size| size > LIMIT) {
         return refused(1, 0, lists);
     }
+    // a list that is read and not as long as its circuit has it: next states and resets are as many as states, and a gate has three words
+    let Flat { states, nexts, resets, gates, .. } = flat(circuit, spare);
+    if nexts.len() != states.len() || resets.len() != states.len() || gates.len() % 3 != 0 {
+        return refused(2, 0, lists);
+    }
     let needed = needed(circuit);
     if lists
         .all()
@@ -219,7 +266,7 @@ pub fn by_crate(circuit: &Circuit, mut lists: Lists) -> Outcome {
         return refused(3, 0, lists);
     }
     match sheet::renumber(circuit) {
-        Err(Refused(number @ 4, literal)) => refused(number, literal, lists),
+        Err(Refused(number @ (4 | 22), literal)) => refused(number, literal, lists),
         Err(Refused(number, literal)) => {
             for (index, list) in lists.all().into_iter().enumerate() {
                 let word = if index == 0 { NO_IMAGE } else { 0 };
@@ -258,6 +305,9 @@ fn write(
     for (image, latch) in lists.next_images.iter_mut().zip(&ordered.latches) {
         *image = latch.next_state;
     }
+    for (image, reset) in lists.reset_images.iter_mut().zip(sheet::reset_images(ordered)) {
+        *image = reset;
+    }
     for (image, root) in lists
         .root_images
         .iter_mut()
@@ -265,9 +315,9 @@ fn write(
     {
         *image = root;
     }
-    lists.gates_out[..needed[3]].fill(0);
+    lists.gates_out[..needed[4]].fill(0);
     for (pair, gate) in lists.gates_out.chunks_mut(2).zip(&ordered.and_gates) {
         pair.copy_from_slice(&gate.inputs);
     }
-    lists.scratch[..needed[4]].fill(0);
+    lists.scratch[..needed[5]].fill(0);
 }

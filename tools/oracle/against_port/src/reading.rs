@@ -4,8 +4,8 @@ use judge::file_words::{Reading, Room, LIMIT};
 /// How many words an answer has.
 pub const ANSWER: usize = 11;
 
-/// The lists that are lent for next states, gates, justice sizes and roots.
-pub type Lists = [Vec<u32>; 4];
+/// The lists that are lent for next states, resets, gates, justice sizes and roots.
+pub type Lists = [Vec<u32>; 5];
 
 /// The refusal's number or 0, the answer's words, and the lists; before the call, what is lent.
 #[derive(Clone, PartialEq, Eq, Debug)]
@@ -23,7 +23,7 @@ fn dirty(length: usize, index: u32) -> Vec<u32> {
 /// Lists of these lengths, with other words in them.
 pub fn lent(room: Room, answer: usize) -> Outcome {
     let list = |index: usize| dirty(room[index], index as u32);
-    Outcome { number: 0, answer: dirty(answer, 7).into_iter().map(u64::from).collect(), lists: [0, 1, 2, 3].map(list) }
+    Outcome { number: 0, answer: dirty(answer, 7).into_iter().map(u64::from).collect(), lists: [0, 1, 2, 3, 4].map(list) }
 }
 
 extern "C" {
@@ -33,6 +33,8 @@ extern "C" {
         length: usize,
         nexts: *mut u32,
         nexts_length: usize,
+        resets: *mut u32,
+        resets_length: usize,
         gates: *mut u32,
         gates_length: usize,
         sizes: *mut u32,
@@ -60,7 +62,7 @@ extern "C" {
 
 /// What the port answers and leaves.
 pub fn by_port(bytes: &[u8], mut lent: Outcome) -> Outcome {
-    let [nexts, gates, sizes, roots] = lent.lists.each_mut().map(|list| (list.as_mut_ptr(), list.len()));
+    let [nexts, resets, gates, sizes, roots] = lent.lists.each_mut().map(|list| (list.as_mut_ptr(), list.len()));
     let answer = (lent.answer.as_mut_ptr(), lent.answer.len());
     // Each pointer and length is a whole slice or Vec, and no two of those that are written overlap.
     lent.number = unsafe {
@@ -69,6 +71,8 @@ pub fn by_port(bytes: &[u8], mut lent: Outcome) -> Outcome {
             bytes.len(),
             nexts.0,
             nexts.1,
+            resets.0,
+            resets.1,
             gates.0,
             gates.1,
             sizes.0,
@@ -110,7 +114,7 @@ pub fn difference(port: &Outcome, words: &Outcome) -> String {
     if (port.number, &port.answer) != (words.number, &words.answer) {
         return format!("the port answers {} {:?}, by the words it is {} {:?}", port.number, port.answer, words.number, words.answer);
     }
-    let names = ["nexts", "gates", "sizes", "roots"];
+    let names = ["nexts", "resets", "gates", "sizes", "roots"];
     for ((one, other), name) in port.lists.iter().zip(&words.lists).zip(names) {
         if let Some(cell) = (0..one.len()).find(|&cell| one[cell] != other[cell]) {
             return format!("{name}[{cell}]: the port {}, by the words {}", one[cell], other[cell]);

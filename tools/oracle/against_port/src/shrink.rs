@@ -30,6 +30,16 @@ fn candidates(circuit: &Circuit) -> Vec<Circuit> {
             c.latches.remove(index);
         });
     }
+    // a reset that is its latch's own literal, with either sign, stays so
+    for index in 0..circuit.latches.len() {
+        let [state, _, reset] = circuit.latches[index];
+        if reset / 2 == state / 2 && state > 3 {
+            with(&|c| {
+                c.latches[index][0] -= 2;
+                c.latches[index][2] -= 2;
+            });
+        }
+    }
     for list in 0..5 {
         for index in 0..circuit.roots[list].len() {
             with(&|c| {

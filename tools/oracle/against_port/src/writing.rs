@@ -41,6 +41,8 @@ extern "C" {
         counts_length: usize,
         nexts: *const u32,
         nexts_length: usize,
+        resets: *const u32,
+        resets_length: usize,
         gates: *const u32,
         gates_length: usize,
         sizes: *const u32,
@@ -71,7 +73,7 @@ fn dirty(lent: Lent) -> Outcome {
 /// What the port answers and leaves.
 pub fn by_port(given: &Given, lent: Lent) -> Outcome {
     let mut left = dirty(lent);
-    let Given { inputs, counts, nexts, gates, sizes, roots } = given;
+    let Given { inputs, counts, nexts, resets, gates, sizes, roots } = given;
     // Each pointer and length is a whole list or the beginning of one, and no two of those that are written overlap.
     left.number = unsafe {
         imdagluz_write_aig(
@@ -80,6 +82,8 @@ pub fn by_port(given: &Given, lent: Lent) -> Outcome {
             counts.len(),
             nexts.as_ptr(),
             nexts.len(),
+            resets.as_ptr(),
+            resets.len(),
             gates.as_ptr(),
             gates.len(),
             sizes.as_ptr(),
@@ -157,7 +161,7 @@ impl Spare {
 
     fn lent(self, given: &Given) -> Lent {
         let needed = if given.shaped() && given.fault().is_none() { given.bytes(given.top()).map_or(0, |bytes| bytes.len()) } else { 40 };
-        let most = 76 + 8 * (given.inputs as usize + given.nexts.len() + given.gates.len() / 2 + given.roots.len() + given.sizes.len());
+        let most = 76 + 8 * (given.top() as usize + given.nexts.len() + given.roots.len() + given.sizes.len());
         match self {
             Spare::Ample(bytes, words) if most <= AMPLE_BYTES => Lent { bytes: needed.max(most + bytes - 4), words },
             Spare::Ample(bytes, words) | Spare::More(bytes, words) => Lent { bytes: needed + bytes, words },
@@ -227,7 +231,7 @@ impl Tally {
 
 /// Shows the smallest circuit that differs, and ends the program.
 fn differs(given: &Given, spare: Spare, what: String) -> ! {
-    if given.gates.len() + given.nexts.len() + given.roots.len() + given.sizes.len() > 20_000 {
+    if given.gates.len() + given.nexts.len() + given.resets.len() + given.roots.len() + given.sizes.len() > 20_000 {
         println!("DIFFERS, with {} inputs, {} latches, {} words of gates, counts {:?}: {what}", given.inputs, given.nexts.len(), given.gates.len(), given.counts);
         exit(1);
     }
@@ -279,8 +283,8 @@ fn trip(bytes: &[u8]) -> Result<Option<bool>, String> {
         return Err(format!("the port refuses the file by {}", first.number));
     }
     let counts = first.answer[5..10].iter().map(|&count| count as u32).collect();
-    let [nexts, gates, sizes, roots] = first.lists.clone();
-    let given = Given { inputs: first.answer[2] as u32, counts, nexts, gates, sizes, roots };
+    let [nexts, resets, gates, sizes, roots] = first.lists.clone();
+    let given = Given { inputs: first.answer[2] as u32, counts, nexts, resets, gates, sizes, roots };
     if given != Given::from(&circuit) {
         return Err("the port reads another circuit".into());
     }
@@ -353,6 +357,7 @@ pub fn whole(file: &File) -> Vec<u8> {
         inputs: inputs.len() as u32,
         counts: roots.iter().map(|list| list.len() as u32).collect(),
         nexts: latches.iter().map(|latch| latch[1] as u32).collect(),
+        resets: latches.iter().map(|latch| latch[2] as u32).collect(),
         gates: gates.iter().flat_map(|gate| [gate[1] as u32, gate[2] as u32]).collect(),
         sizes: file.justice.iter().map(|&size| size as u32).collect(),
         roots: roots.iter().flatten().map(|&root| root as u32).collect(),

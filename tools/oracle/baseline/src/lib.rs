@@ -2,7 +2,7 @@
 //! stand-in's, over bytes in memory.
 use flussab::{text::LineReader, DeferredReader, DeferredWriter};
 use flussab_aiger::{
-    aig::{Aig, AndGate, OrderedAig, OrderedAndGate, OrderedLatch, Renumber, RenumberConfig},
+    aig::{Aig, AndGate, Latch, OrderedAig, OrderedAndGate, OrderedLatch, Renumber, RenumberConfig},
     binary, token, ParseError,
 };
 use std::{ptr, slice};
@@ -41,21 +41,31 @@ pub unsafe extern "C" fn crate_delta(
     }
 }
 
-/// A circuit for `crate_renumber`; it is never freed. Gates come flat: output, first, second.
+/// A circuit for `crate_renumber`; it is never freed. Gates come flat: output, first, second. A latch has a state, a next state and a reset.
 ///
 /// # Safety
-/// Each pointer points to as many words as its length says.
+/// Each pointer points to as many words as its length says, those of states, next states and resets to as many as there are latches.
 #[no_mangle]
 pub unsafe extern "C" fn crate_circuit(
     top: u32,
     inputs: *const u32,
     inputs_length: usize,
+    states: *const u32,
+    nexts: *const u32,
+    resets: *const u32,
+    latches: usize,
     gates: *const u32,
     gates_length: usize,
     roots: *const u32,
     roots_length: usize,
 ) -> *mut Aig<u32> {
     let words = |pointer, length| unsafe { slice::from_raw_parts(pointer, length) };
+    let [states, nexts, resets] = [states, nexts, resets].map(|list| words(list, latches));
+    let latch = |index: usize| Latch {
+        state: states[index],
+        next_state: nexts[index],
+        initialization: start(resets[index]),
+    };
     let gate = |gate: &[u32]| AndGate {
         output: gate[0],
         inputs: [gate[1], gate[2]],
@@ -63,10 +73,16 @@ pub unsafe extern "C" fn crate_circuit(
     Box::into_raw(Box::new(Aig {
         max_var_index: top as usize,
         inputs: words(inputs, inputs_length).to_vec(),
+        latches: (0..latches).map(latch).collect(),
         and_gates: words(gates, gates_length).chunks(3).map(gate).collect(),
         outputs: words(roots, roots_length).to_vec(),
         ..Aig::default()
     }))
+}
+
+/// What a latch with this reset starts at: none for its own literal.
+fn start(reset: u32) -> Option<bool> {
+    (reset < 2).then_some(reset == 1)
 }
 
 /// Renumbers with the flags trim 1, hash 2, fold 4: the gates made, or u32::MAX where the crate refuses. What it made is dropped.
@@ -164,10 +180,12 @@ fn staged(bytes: &[u8]) -> Result<FileRead, ParseError> {
 /// The sum of all words that were read.
 fn sum(read: &OrderedAig<u32>, sizes: &[usize]) -> u64 {
     let words = |list: &[u32]| list.iter().map(|&word| word as u64).sum::<u64>();
-    let nexts: u64 = read.latches.iter().map(|latch| latch.next_state as u64).sum();
+    let own = |index: usize| 2 * (read.input_count + 1 + index) as u64;
+    let latch = |(index, latch): (usize, &OrderedLatch<u32>)| latch.next_state as u64 + latch.initialization.map_or(own(index), u64::from);
+    let latches: u64 = read.latches.iter().enumerate().map(latch).sum();
     let gates: u64 = read.and_gates.iter().map(|gate| words(&gate.inputs)).sum();
     let roots = [&read.outputs, &read.bad_state_properties, &read.invariant_constraints, &read.fairness_constraints];
-    nexts + gates
+    latches + gates
         + roots.map(|list| words(list)).iter().sum::<u64>()
         + words(&read.justice_properties[0])
         + sizes.iter().map(|&size| size as u64).sum::<u64>()
@@ -177,13 +195,14 @@ fn sum(read: &OrderedAig<u32>, sizes: &[usize]) -> u64 {
 /// justice set has its size.
 ///
 /// # Safety
-/// Each pointer points to as many words as its length says, and `counts` to five.
+/// Each pointer points to as many words as its length says, `counts` to five, and `resets` to as many as there are next states.
 #[no_mangle]
 pub unsafe extern "C" fn crate_ordered(
     inputs: u32,
     counts: *const u32,
     nexts: *const u32,
     nexts_length: usize,
+    resets: *const u32,
     gates: *const u32,
     gates_length: usize,
     sizes: *const u32,
@@ -198,11 +217,11 @@ pub unsafe extern "C" fn crate_ordered(
     let [outputs, bad_state_properties, invariant_constraints, fairness_constraints, justice] = counts.map(&mut next);
     let mut justice = justice.into_iter();
     let sizes = words(sizes, sizes_length);
-    let latch = |&next_state: &u32| OrderedLatch { next_state, initialization: Some(false) };
+    let latch = |(&next_state, &reset): (&u32, &u32)| OrderedLatch { next_state, initialization: start(reset) };
     Box::into_raw(Box::new(OrderedAig {
         max_var_index: inputs as usize + nexts_length + gates_length / 2,
         input_count: inputs as usize,
-        latches: words(nexts, nexts_length).iter().map(latch).collect(),
+        latches: words(nexts, nexts_length).iter().zip(words(resets, nexts_length)).map(latch).collect(),
         outputs,
         bad_state_properties,
         invariant_constraints,
@@ -222,7 +241,7 @@ pub unsafe extern "C" fn crate_write(circuit: *const OrderedAig<u32>, out: *mut 
     written(unsafe { &*circuit }, unsafe { slice::from_raw_parts_mut(out, length) })
 }
 
-/// Reads a file of which no reset is kept, renumbers it with the flags and writes what comes of it: how many bytes that took, or none where the crate refuses it.
+/// Reads a file, renumbers it with the flags and writes what comes of it: how many bytes that took, or none where the crate refuses it.
 ///
 /// # Safety
 /// `bytes` points to `length` bytes that can be read, `out` to `room` bytes that can be written.
@@ -232,7 +251,6 @@ pub unsafe extern "C" fn crate_whole(bytes: *const u8, length: usize, flags: u32
     let Ok(FileRead(mut read, sizes)) = staged(bytes) else { return 0 };
     let mut justice = read.justice_properties.pop().unwrap_or_default().into_iter();
     read.justice_properties = sizes.iter().map(|&size| justice.by_ref().take(size).collect()).collect();
-    read.latches.iter_mut().for_each(|latch| latch.initialization = Some(false));
     let config = RenumberConfig::default()
         .trim(flags & 1 != 0)
         .structural_hash(flags & 2 != 0)

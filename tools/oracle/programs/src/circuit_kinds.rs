@@ -1,4 +1,5 @@
-//! Random circuits: one that passes every check, one that shares a few nodes heavily, and what can be done to either.
+//! Random circuits: one that passes every check, one that shares a few nodes heavily, and what can be done to either. Their latches start at 0 until
+//! `with_resets` says otherwise.
 use crate::{circuit::Circuit, random::Random};
 
 type Fault = fn(&mut Random, &mut Circuit);
@@ -67,7 +68,7 @@ pub fn of_sizes(random: &mut Random, i: u64, l: u64, g: u64, roots: [u64; 5]) ->
     Circuit {
         largest,
         inputs: (0..i).map(code).collect(),
-        latches: (i..i + l).map(|index| [code(index), used(0)]).collect(),
+        latches: (i..i + l).map(|index| [code(index), used(0), 0]).collect(),
         gates,
         roots: roots.map(|length| (0..length).map(&mut used).collect()),
         flags: random.below(8),
@@ -137,7 +138,7 @@ pub fn sharing(random: &mut Random, gates: u64) -> Circuit {
     Circuit {
         largest,
         inputs: (0..sources - latches).map(code).collect(),
-        latches: (sources - latches..sources).map(|index| [code(index), used(0)]).collect(),
+        latches: (sources - latches..sources).map(|index| [code(index), used(0), 0]).collect(),
         gates: listed,
         roots: roots.map(|length| (0..length).map(&mut used).collect()),
         flags: random.below(8) | random.pick(&[0, 2, 2, 2]),
@@ -233,7 +234,7 @@ fn constant_defined(random: &mut Random, circuit: &mut Circuit) {
     match random.below(3) {
         0 => circuit.inputs.push(constant),
         1 => circuit.gates.push([constant, 0, 1]),
-        _ => circuit.latches.push([constant, 0]),
+        _ => circuit.latches.push([constant, 0, 0]),
     }
 }
 
@@ -244,16 +245,16 @@ fn latch_twice(random: &mut Random, circuit: &mut Circuit) {
         count if count > 0 && random.bit() == 1 => {
             circuit.latches[random.index(count)][0] = code;
         }
-        _ => circuit.latches.push([code, any_literal(random, circuit)]),
+        _ => circuit.latches.push([code, any_literal(random, circuit), 0]),
     }
 }
 
-/// Changes one code, or adds a root where there is none.
+/// Changes one code of those that a sheet has, or adds a root where there is none.
 fn change_code(random: &mut Random, circuit: &mut Circuit, change: impl Fn(u64) -> u64) {
-    if circuit.codes().is_empty() {
+    if circuit.sheet_codes().is_empty() {
         circuit.roots[random.index(5)].push(0);
     }
-    let mut codes = circuit.codes_mut();
+    let mut codes = circuit.sheet_codes_mut();
     let index = random.index(codes.len());
     *codes[index] = change(*codes[index]);
 }
@@ -288,6 +289,45 @@ fn two_faults(random: &mut Random, circuit: &mut Circuit) {
     for _ in 0..2 {
         let (_, _, fault) = random.pick(&FAULTS[1..FAULTS.len() - 2]);
         fault(random, circuit);
+    }
+}
+
+/// Gives the latches resets: of one kind or mixed, and in one circuit of six some that no latch can have, or that are over every code.
+pub fn with_resets(random: &mut Random, circuit: &mut Circuit) {
+    let style = random.below(8);
+    for latch in &mut circuit.latches {
+        let kind = if style < 3 { style } else { random.below(3) };
+        latch[2] = if kind < 2 { kind } else { latch[0] };
+    }
+    if circuit.latches.is_empty() || random.below(6) != 0 {
+        return;
+    }
+    for _ in 0..random.between(1, 2) {
+        let reset = stray(random, circuit);
+        let index = random.index(circuit.latches.len());
+        let own = circuit.latches[index][0];
+        circuit.latches[index][2] = if random.below(3) == 0 { own ^ 1 } else { reset };
+        // both of a latch's literals over: the next state comes first
+        if random.below(8) == 0 {
+            let first = 2 * circuit.largest + 2;
+            circuit.latches[index][1] = first + 1;
+            circuit.latches[index][2] = first + random.below(3);
+        }
+    }
+}
+
+/// A reset that hardly any latch can have: the literal of an input, a gate or another latch, with either sign, any literal, or a code that is over.
+fn stray(random: &mut Random, circuit: &Circuit) -> u64 {
+    let first = 2 * circuit.largest + 2;
+    let mut defined: Vec<u64> = circuit.inputs.clone();
+    defined.extend(circuit.gates.iter().map(|gate| gate[0]));
+    defined.extend(circuit.latches.iter().map(|latch| latch[0]));
+    match random.below(8) {
+        0 => first,
+        1 => random.between(first, u32::MAX as u64),
+        2 => random.below(first),
+        3 => 2 + random.bit(),
+        _ => random.pick(&defined) ^ random.bit(),
     }
 }
 

@@ -1,4 +1,4 @@
-//! The examples of document 01, with request Q-2's, of the review of the definitions and of the papers, as data.
+//! The examples of document 01, with request Q-2's and Q-7's, of the review of the definitions and of the papers, as data.
 //!
 //! A circuit is written as document 01 writes it: `gates 6(2,4), 8(2,5)`, `latch 4 8` (state, next), lists
 //! by name, flags by name, `V=2` where V is not the least that passes check 4. Starred ones are those that
@@ -80,6 +80,43 @@ pub const CIRCUITS: &[(&str, &str)] = &[
     ("gate 2(2,0), trim, root 3", "refused 8 2"),
     ("latch 0 0", "refused 6 0"),
     ("latch 1 0", "refused 6 1"),
+];
+
+/// Circuits with resets, and what the resets become.
+pub const RESETS: &[(&str, &str)] = &[
+    ("latch 2 0", "resets [0]"),
+    ("latch 2 0, reset 0", "resets [0]"),
+    ("latch 2 0, reset 1", "resets [1]"),
+    ("latch 2 0, reset 2", "resets [2]"),
+    ("latch 2 0, reset 3", "refused 22 3"),
+    // the own literal is the one that is written
+    ("latch 3 0, reset 3", "resets [2]"),
+    ("latch 3 0, reset 2", "refused 22 2"),
+    ("latch 3 0, reset 1", "resets [1]"),
+    // it becomes the new one
+    ("input 6, latches 5 6, 2 4, resets 5, 1", "resets [4, 1]"),
+    ("inputs 2, 4, latches 8 0, 6 0, resets 8, 6", "resets [6, 8]"),
+    ("input 2, latch 4 2, reset 4, gate 6(2,4), root 6, trim, hash, fold", "resets [4]"),
+    // another latch's, an input's, a gate's
+    ("latches 4 0, 2 0, resets 2, 2", "refused 22 2"),
+    ("input 2, latch 4 0, reset 2", "refused 22 2"),
+    ("latch 4 0, reset 2, gate 2(0,0)", "refused 22 2"),
+    // the first one
+    ("latches 2 0, 4 0, 6 0, resets 1, 5, 7", "refused 22 5"),
+    // 4 comes first, latch by latch (state, next, reset), roots too; then 22; then 5, 6, 7 and 8
+    ("V=2, latch 4 0, reset 6", "refused 4 6"),
+    ("V=2, latch 4 0, reset 3, root 9", "refused 4 9"),
+    ("V=1, latch 2 8, reset 9", "refused 4 8"),
+    ("V=1, latches 2 0, 8 0, resets 9, 0", "refused 4 9"),
+    ("V=1, latches 2 0, 8 0, resets 3, 0", "refused 4 8"),
+    ("inputs 2, 2, latch 4 0, reset 2", "refused 22 2"),
+    ("input 2, latch 2 0, reset 3", "refused 22 3"),
+    ("input 2, latch 2 0, reset 2", "refused 6 2"),
+    ("latch 0 0, reset 0", "refused 6 0"),
+    ("V=2, latch 2 4, reset 3", "refused 22 3"),
+    ("V=2, latch 2 4, reset 2", "refused 7 4"),
+    ("latch 2 4, reset 4, gate 4(4,4)", "refused 22 4"),
+    ("latch 2 4, reset 1, gate 4(4,4)", "refused 8 4"),
 ];
 
 /// Sheets as bytes: hexadecimal, and how often it is repeated.

@@ -1,4 +1,5 @@
 //! A binary file read by the crate's staged calls, stopped after the last gate: its `parse` reads on.
+use crate::circuit::{reset, start};
 use crate::file_words::{Ordered, Refused};
 use crate::token_line;
 use flussab_aiger::{aig, binary, InnerParseError, ParseError};
@@ -49,7 +50,7 @@ fn staged(bytes: &[u8]) -> Result<Ordered, ParseError> {
     circuit.gates = gates.concat();
     for (latch, state) in latches.iter().zip((inputs + 1..).map(|variable| 2 * variable)) {
         circuit.nexts.push(latch.next_state as u64);
-        circuit.resets.push(latch.initialization.map_or(state, u64::from));
+        circuit.resets.push(reset(state, latch.initialization));
     }
     Ok(circuit)
 }
@@ -57,7 +58,9 @@ fn staged(bytes: &[u8]) -> Result<Ordered, ParseError> {
 /// The crate's record of a circuit that was read.
 pub fn record(circuit: &Ordered) -> aig::Aig<u32> {
     let word = |&code: &u64| code as u32;
-    let latch = |&next: &u64| aig::OrderedLatch { next_state: next as u32, initialization: Some(false) };
+    let states = (circuit.inputs + 1..).map(|variable| 2 * variable);
+    let latches = circuit.nexts.iter().zip(&circuit.resets).zip(states);
+    let latch = |((next, &reset), state)| aig::OrderedLatch { next_state: word(next), initialization: start(state, reset) };
     let gate = |pair: &[u64]| aig::OrderedAndGate { inputs: [word(&pair[0]), word(&pair[1])] };
     let mut roots = circuit.roots.iter().map(word);
     let mut next = |count: u64| roots.by_ref().take(count as usize).collect::<Vec<u32>>();
@@ -65,7 +68,7 @@ pub fn record(circuit: &Ordered) -> aig::Aig<u32> {
     aig::Aig::from(aig::OrderedAig {
         max_var_index: circuit.top as usize,
         input_count: circuit.inputs as usize,
-        latches: circuit.nexts.iter().map(latch).collect(),
+        latches: latches.map(latch).collect(),
         outputs,
         bad_state_properties,
         invariant_constraints,

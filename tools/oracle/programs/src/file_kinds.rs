@@ -8,6 +8,8 @@ pub struct Parts {
     pub lines: Vec<String>,
     pub gates: Vec<u8>,
     pub after: Vec<u8>,
+    /// Whether the last newline is missing.
+    pub cut: bool,
 }
 
 impl Parts {
@@ -17,6 +19,9 @@ impl Parts {
         for line in &self.lines {
             bytes.extend(line.as_bytes());
             bytes.push(b'\n');
+        }
+        if self.cut {
+            bytes.pop();
         }
         bytes.extend(&self.gates);
         bytes.extend(&self.after);
@@ -64,8 +69,8 @@ pub fn of_sizes(random: &mut Random, sizes: Sizes) -> Parts {
     let mut header = vec!["aig".to_string()];
     header.extend(numbers.iter().map(u64::to_string));
     let codes = 2 * numbers[0] + 2;
-    let judged = random.percent(90);
-    let mut lines: Vec<String> = (0..sizes.latches).map(|index| latch(random, codes, 2 * (sizes.inputs + 1 + index), judged)).collect();
+    let style = random.below(4);
+    let mut lines: Vec<String> = (0..sizes.latches).map(|index| latch(random, codes, 2 * (sizes.inputs + 1 + index), style)).collect();
     let [outputs, bad, constraints, sets, fairness] = sizes.roots;
     let mut literals = |count: u64, random: &mut Random| lines.extend((0..count).map(|_| random.below(codes).to_string()));
     literals(outputs + bad + constraints, random);
@@ -77,18 +82,50 @@ pub fn of_sizes(random: &mut Random, sizes: Sizes) -> Parts {
     for index in 0..sizes.gates {
         gate(random, &mut gates, 2 * (sizes.inputs + sizes.latches + 1 + index));
     }
-    Parts { header, lines, gates, after: vec![] }
+    Parts { header, lines, gates, after: vec![], cut: false }
 }
 
-/// A latch's line, in half of them with a reset; one that is not judged may be any literal.
-fn latch(random: &mut Random, codes: u64, own: u64, judged: bool) -> String {
+/// A latch's line: without a reset in the first style, with one that is not 0 or none in the second, and in the others with any or none.
+fn latch(random: &mut Random, codes: u64, own: u64, style: u64) -> String {
     let next = random.below(codes);
-    match random.below(8) {
-        0..=3 => next.to_string(),
-        4 => format!("{next} 0"),
-        5 => format!("{next} 1"),
-        6 if !judged => format!("{next} {}", random.below(codes)),
+    match (style, random.below(6)) {
+        (0, _) | (_, 0 | 1) | (1, 2) => next.to_string(),
+        (_, 2) => format!("{next} 0"),
+        (_, 3) => format!("{next} 1"),
         _ => format!("{next} {own}"),
+    }
+}
+
+/// A latch's line gets a reset of another kind: the latch's own literal negated, another's, any literal, one next to the largest, and words that are no number or
+/// hardly one; what follows it stays, is something else, or is cut with the rest of the file.
+fn other_reset(random: &mut Random, parts: &mut Parts) {
+    let count = |index: usize| parts.header.get(index).and_then(|word| word.parse::<u32>().ok()).map_or(0, u64::from);
+    let (top, inputs, latches) = (count(1), count(2), count(3).min(parts.lines.len() as u64));
+    if latches == 0 {
+        return;
+    }
+    let index = random.below(latches);
+    let (own, largest) = (2 * (inputs + 1 + index), 2 * top + 1);
+    let reset = match random.below(12) {
+        0..=2 => (own ^ 1).to_string(),
+        3 => (own + 2).to_string(),
+        4 => (own - 2).to_string(),
+        5 => random.pick(&[2, 3]).to_string(),
+        6 => random.pick(&[largest, largest + 1]).to_string(),
+        7 => random.pick(&EDGES).to_string(),
+        8 => format!("0{own}"),
+        9 => own.to_string(),
+        _ => random.below(largest + 1).to_string(),
+    };
+    let line = &mut parts.lines[index as usize];
+    let next = line.split(' ').next().unwrap_or_default().to_string();
+    *line = format!("{next} {reset}{}", random.pick(&["", "", "", "", "x", " ", " 1", "\r"]));
+    if random.below(6) == 0 {
+        // the file ends here, some with the newline and some without
+        parts.lines.truncate(index as usize + 1);
+        parts.gates.clear();
+        parts.after.clear();
+        parts.cut = random.bit() == 1;
     }
 }
 
@@ -161,7 +198,7 @@ fn a_number<'a>(random: &mut Random, parts: &'a mut Parts) -> &'a mut String {
 type Fault = fn(&mut Random, &mut Parts);
 
 /// Faults in the parts, each with its share.
-const FAULTS: [(u64, Fault); 17] = [
+const FAULTS: [(u64, Fault); 18] = [
     (10, |random, parts| *a_number(random, parts) = random.pick(&EDGES).to_string()),
     (10, |random, parts| {
         // one more, one less, or next to the largest literal
@@ -207,6 +244,7 @@ const FAULTS: [(u64, Fault); 17] = [
         }
     }),
     (20, zero_delta),
+    (20, other_reset),
     (5, |random, parts| {
         // a delta of eight or nine bytes, or one over any reference, somewhere among the gates
         let mut delta = vec![];
@@ -293,9 +331,9 @@ pub fn any(random: &mut Random, gates: u64) -> Vec<u8> {
 }
 
 /// What short endings are set behind: the sections of a file, each about to begin or half read.
-const BEGINNINGS: [&[u8]; 12] = [
+const BEGINNINGS: [&[u8]; 14] = [
     b"", b"ai", b"aig", b"aig 1", b"aig 1 0 1", b"aig 1 0 1 0 0", b"aig 0 0 0 0 0 1 0", b"aig 2 0 2 0 0\n", b"aig 1 1 0 2 0\n", b"aig 1 0 0 0 1 0 0 1\n",
-    b"aig 1 0 0 0 1 0 0 1 1\n1\n", b"aig 3 1 2 0 0\n2",
+    b"aig 1 0 0 0 1 0 0 1 1\n1\n", b"aig 3 1 2 0 0\n2", b"aig 1 0 1 0 0\n0 ", b"aig 1 0 1 1 0\n3 2",
 ];
 const LETTERS: [u8; 8] = *b"0123 \n\ra";
 
@@ -368,6 +406,11 @@ pub fn large(random: &mut Random, mut tell: impl FnMut(&[u8])) {
     whole(sizes(0, 0, LIMIT, [0, 0, 0, half, 0]));
     for reset in ["", " 0", " 1"] {
         tell(format!("aig {LIMIT} 0 {LIMIT} 0 0\n{}", format!("{}{reset}\n", 2 * LIMIT + 1).repeat(LIMIT as usize)).as_bytes());
+    }
+    // every latch its own reset, and the last one's negated
+    for last in [2 * LIMIT, 2 * LIMIT + 1] {
+        let lines: String = (1..LIMIT).map(|v| format!("{} {}\n", 2 * LIMIT + 1, 2 * v)).collect();
+        tell(format!("aig {LIMIT} 0 {LIMIT} 0 0\n{lines}0 {last}\n").as_bytes());
     }
     // justice sets of one size, and fairness constraints
     let many = [(LIMIT, 0, 0), (LIMIT, 1, 0), (LIMIT, 1, 1), (LIMIT + 1, 0, 0)];

@@ -19,6 +19,7 @@ fn candidates(bytes: &[u8]) -> Vec<Vec<u8>> {
         all
     }));
     all.extend(last_count_away(bytes));
+    all.extend(sources_away(bytes).into_iter().flatten());
     all.extend(lower_bytes(bytes));
     // each is smaller: shorter, or as long and before it
     all.retain(|candidate| (candidate.len(), &candidate[..]) < (bytes.len(), bytes));
@@ -72,6 +73,36 @@ fn last_count_away(bytes: &[u8]) -> Option<Vec<u8>> {
     let end = bytes.iter().position(|&byte| byte == b'\n')?;
     let space = bytes[..end].iter().rposition(|&byte| byte == b' ')?;
     Some([&bytes[..space], &bytes[end..]].concat())
+}
+
+/// With fewer inputs, or without one latch: the resets that name a latch go down with it.
+fn sources_away(bytes: &[u8]) -> Option<Vec<Vec<u8>>> {
+    let end = bytes.iter().position(|&byte| byte == b'\n')?;
+    let words: Vec<&str> = std::str::from_utf8(&bytes[..end]).ok()?.split(' ').collect();
+    let count = |word: usize| words.get(word).and_then(|word| word.parse::<u64>().ok());
+    let (top, inputs, latches) = (count(1)?, count(2)?, count(3).filter(|&latches| latches <= 40)? as usize);
+    let mut lines: Vec<&[u8]> = bytes[end + 1..].splitn(latches + 1, |&byte| byte == b'\n').collect();
+    let rest = lines.pop().filter(|_| lines.len() == latches)?;
+    let without = |less: u64, gone: Option<usize>| {
+        let fewer = less + gone.is_some() as u64;
+        let mut header: Vec<String> = words.iter().map(|word| word.to_string()).collect();
+        header[1] = top.checked_sub(fewer)?.to_string();
+        header[2] = (inputs - less).to_string();
+        header[3] = (latches - gone.is_some() as usize).to_string();
+        let mut file = header.join(" ").into_bytes();
+        for (index, line) in lines.iter().enumerate().filter(|&(index, _)| Some(index) != gone) {
+            file.push(b'\n');
+            let down = 2 * (less + gone.is_some_and(|gone| gone < index) as u64);
+            let reset = std::str::from_utf8(line).ok().and_then(|line| line.split_once(' ')).and_then(|(next, reset)| Some((next, reset.parse::<u64>().ok()?)));
+            match reset {
+                Some((next, reset)) if reset > 1 => file.extend(format!("{next} {}", reset.saturating_sub(down)).bytes()),
+                _ => file.extend(*line),
+            }
+        }
+        Some([&file[..], b"\n", rest].concat())
+    };
+    let inputs_away = [inputs, inputs / 2, 1].into_iter().filter(|&less| 0 < less && less <= inputs).filter_map(|less| without(less, None));
+    Some(inputs_away.chain((0..latches).filter_map(|latch| without(0, Some(latch)))).collect())
 }
 
 /// Each byte a lower one.

@@ -1,4 +1,4 @@
-//! Requests, the binary file, read as document 02's words have it and not as the crate's code does. By the other `Rules` it reads as the crate
+//! Requests, the binary file, read as document 02's words have it and not as the crate's code does. By the other `Rules` it reads as the crate
 //! would, were the lines of docs/DIFFERENCES.md all that sets the two apart: so that those lines can be held to the crate, each by itself.
 
 /// Every count and size of the request is at most this, and so are the roots.
@@ -21,7 +21,6 @@ pub enum Line {
     Above,
     TooMany,
     Short,
-    Reset,
     Zero,
 }
 
@@ -36,7 +35,6 @@ impl Line {
             Line::Above => "M above I+L+A (19)",
             Line::TooMany => "more than 1,048,575 roots (1)",
             Line::Short => "a lent list too short (3)",
-            Line::Reset => "a reset that is not 0, 1 or the latch, which the crate refuses",
             Line::Zero => "a first delta that is zero (20)",
         }
     }
@@ -76,19 +74,19 @@ impl Ordered {
     }
 
     /// The lists that are lent, as they are filled.
-    pub fn lists(&self) -> [&[u64]; 4] {
-        [&self.nexts, &self.gates, &self.sizes, &self.roots]
+    pub fn lists(&self) -> [&[u64]; 5] {
+        [&self.nexts, &self.resets, &self.gates, &self.sizes, &self.roots]
     }
 }
 
 /// What a file is read as, and how many of its bytes that takes.
 pub type Reading = Result<(Ordered, usize), Refused>;
 
-/// How many words of next states, gates, sizes and roots are lent.
-pub type Room = [usize; 4];
+/// How many words of next states, resets, gates, sizes and roots are lent.
+pub type Room = [usize; 5];
 
 /// Room for whatever a file may hold.
-pub const AMPLE: Room = [usize::MAX; 4];
+pub const AMPLE: Room = [usize::MAX; 5];
 
 /// The counts of the first line.
 struct Header {
@@ -201,14 +199,14 @@ impl Reader<'_> {
         if header.top > header.inputs + header.latches + header.gates {
             return self.refuse(19, Some(Line::Above));
         }
-        let needed = [header.latches, 2 * header.gates, header.justice];
+        let needed = [header.latches, header.latches, 2 * header.gates, header.justice];
         match needed.iter().zip(room).any(|(&words, lent)| words > lent as u64) {
             true => self.refuse(3, Some(Line::Short)),
             false => Ok(()),
         }
     }
 
-    /// A latch's next state and its reset, 0 where there is none.
+    /// A latch's next state and its reset, 0 where there is none. One that is not 0, 1 or the latch is told before what follows it is looked at.
     fn latch(&mut self, largest: u64, own: u64) -> Part<(u64, u64)> {
         let next = self.number(largest, largest, None)?;
         if !self.stands(b' ') {
@@ -218,9 +216,9 @@ impl Reader<'_> {
         self.place += 1;
         let field = self.place;
         let reset = self.number(largest, largest, None)?;
-        if self.rules == Rules::Crate && reset > 1 && reset != own {
+        if reset > 1 && reset != own {
             self.place = field;
-            return self.refuse(22, Some(Line::Reset));
+            return self.refuse(22, None);
         }
         self.byte(b'\n')?;
         Ok((next, reset))
@@ -242,7 +240,7 @@ impl Reader<'_> {
         match self.rules {
             Rules::Crate => Ok(()),
             Rules::Request if roots > LIMIT as u128 => self.refuse(1, Some(Line::TooMany)),
-            Rules::Request if roots > room[3] as u128 => self.refuse(3, Some(Line::Short)),
+            Rules::Request if roots > room[4] as u128 => self.refuse(3, Some(Line::Short)),
             Rules::Request => Ok(()),
         }
     }
@@ -316,11 +314,11 @@ pub fn read(bytes: &[u8], room: Room, rules: Rules) -> Reading {
 /// How many words of each list a file asks for, as far as its numbers can be read.
 pub fn needed(bytes: &[u8]) -> Room {
     let mut reader = Reader { bytes, place: 0, rules: Rules::Request };
-    let Ok(header) = reader.header() else { return [0; 4] };
+    let Ok(header) = reader.header() else { return [0; 5] };
     let Header { latches, outputs, gates, bad, constraints, justice, fairness, .. } = header;
     let roots = match read(bytes, AMPLE, Rules::Request) {
         Ok((circuit, _)) => circuit.roots.len() as u64,
         Err(_) => outputs + bad + constraints + fairness,
     };
-    [latches, 2 * gates, justice, roots].map(|words| words as usize)
+    [latches, latches, 2 * gates, justice, roots].map(|words| words as usize)
 }

@@ -1,7 +1,10 @@
 //! Document 01's report program with the crate inside. The crate decides the numbers' bytes (15 and 16,
 //! through `delta_code`), 5, 7, 8, the numbering, the gates and the images. The limits, the order of the
-//! checks and refusals 1, 2, 4 and 6 are document 01's. Refusal 3 cannot come up: nothing is lent.
-use crate::{circuit::Circuit, token_line};
+//! checks and refusals 1, 2, 4 and 6 are document 01's, 22 is document 02's. Refusal 3 cannot come up: nothing is lent.
+use crate::{
+    circuit::{self, Circuit},
+    token_line,
+};
 use flussab::{text::LineReader, DeferredReader};
 use flussab_aiger::aig::{AigStructureError, OrderedAig, Renumber, RenumberConfig};
 use std::{collections::HashSet, fmt::Write};
@@ -49,7 +52,7 @@ pub fn read(sheet: &[u8]) -> Result<Circuit, Refused> {
         largest: header[0],
         inputs,
         gates: gates.chunks(3).map(|g| [g[0], g[1], g[2]]).collect(),
-        latches: latches.chunks(2).map(|l| [l[0], l[1]]).collect(),
+        latches: latches.chunks(2).map(|l| [l[0], l[1], 0]).collect(),
         roots: lists,
         flags: header[9],
     })
@@ -69,11 +72,14 @@ fn numbers(reader: &mut LineReader, count: u64) -> Result<Vec<u64>, Refused> {
     (0..count).map(number).collect()
 }
 
-/// Checks 4 to 6 in their order, then the crate.
+/// Checks 4, 22, 5 and 6 in their order, then the crate.
 pub fn renumber(circuit: &Circuit) -> Result<(OrderedAig<u32>, Renumber<u32>), Refused> {
     let over = |code: &u64| *code > 2 * circuit.largest + 1;
     if let Some(code) = circuit.codes().into_iter().find(over) {
         return Err(Refused(4, code));
+    }
+    if let Some(reset) = circuit.stray() {
+        return Err(Refused(22, reset));
     }
     let aig = circuit.to_crate();
     let defined = aig.lit_defs().map_err(structure_refusal)?;
@@ -105,6 +111,13 @@ pub fn structure_refusal(error: AigStructureError<u32>) -> Refused {
         AigStructureError::LitNotDefined { lit } => Refused(7, lit as u64),
         AigStructureError::FoundCycle { lit } => Refused(8, lit as u64),
     }
+}
+
+/// The resets of the ordered latches, which have the literals behind those of the inputs.
+pub fn reset_images(ordered: &OrderedAig<u32>) -> Vec<u32> {
+    let literals = (ordered.input_count as u64 + 1..).map(|variable| 2 * variable);
+    let starts = ordered.latches.iter().map(|latch| latch.initialization);
+    literals.zip(starts).map(|(literal, start)| circuit::reset(literal, start) as u32).collect()
 }
 
 /// The images of the roots in the walk's order.

@@ -1,4 +1,4 @@
-//! Document 01's renumbering written from its words and not from the crate: checks 5 and 6, the walk
+//! Document 01's renumbering, and document 02's resets, written from their words and not from the crate: checks 22, 5 and 6, the walk
 //! with one stack word an entry, images read again from the map. Where it and the crate differ, document 01
 //! and the crate differ. Two entries a gate are enough (document 02's Q-6): where they are not, it panics.
 use crate::{
@@ -15,6 +15,7 @@ pub struct Ordered {
     pub map: Vec<Option<u32>>,
     pub gates: Vec<[u32; 2]>,
     pub nexts: Vec<u32>,
+    pub resets: Vec<u32>,
     pub roots: Vec<u32>,
 }
 
@@ -37,6 +38,7 @@ fn variable(code: u32) -> usize {
 
 /// Document 01's answer to a circuit that passes checks 1 to 4.
 pub fn renumber(circuit: &Circuit) -> Result<Ordered, Refused> {
+    let resets: Vec<u32> = check_resets(circuit)?;
     let aig = circuit.to_crate();
     let gates: Vec<[u32; 3]> = aig
         .and_gates
@@ -60,6 +62,7 @@ pub fn renumber(circuit: &Circuit) -> Result<Ordered, Refused> {
     }
     Ok(Ordered {
         largest: aig.inputs.len() + states.len() + walk.made.len(),
+        resets,
         nexts: nexts
             .iter()
             .map(|&next| walk.image(next).unwrap())
@@ -71,6 +74,18 @@ pub fn renumber(circuit: &Circuit) -> Result<Ordered, Refused> {
         map: walk.map,
         gates: walk.made,
     })
+}
+
+/// Check 22, and what the resets become: 0 and 1 themselves, a latch's own literal the code that its state gets.
+fn check_resets(circuit: &Circuit) -> Result<Vec<u32>, Refused> {
+    let first = 2 * (circuit.inputs.len() as u32 + 1);
+    let image = |(&[state, _, reset], literal): (&[u64; 3], u32)| match reset {
+        0 => Ok(0),
+        1 => Ok(1),
+        own if own == state => Ok(literal),
+        other => Err(Refused(22, other)),
+    };
+    circuit.latches.iter().zip((first..).step_by(2)).map(image).collect()
 }
 
 impl Walk {
@@ -206,6 +221,7 @@ pub fn compare(circuit: &Circuit) -> Result<Option<Refused>, String> {
             .iter()
             .map(|latch| latch.next_state)
             .collect(),
+        resets: sheet::reset_images(&ordered),
         roots: sheet::root_images(&ordered),
     });
     let by_words = renumber(circuit);
@@ -220,7 +236,7 @@ fn images(renumber: &Renumber<u32>, largest: u64) -> Vec<Option<u32>> {
     (0..=largest as u32).map(image).collect()
 }
 
-/// How high the crate's own stack grows on a circuit.
+/// How high the crate's own stack grows on a circuit that passes check 22.
 pub fn deepest(circuit: &Circuit) -> usize {
     let aig = circuit.to_crate();
     let gate = |gate: &flussab_aiger::aig::AndGate<u32>| probed::AndGate {

@@ -21,10 +21,10 @@ pub fn compare(given: &Given, room: usize) -> Result<Compared, String> {
         Some((_, line)) => Some(line),
         None => request.as_ref().err().map(|_| Line::Short),
     };
-    if !given.shaped() {
-        return match request {
-            Err(Unwritten { number: 1 | 2, .. }) => Ok(Compared { request, line, crate_writes: None }),
-            _ => Err(format!("written, and not as the counts say: {request:?}")),
+    if !given.recorded() {
+        return match (&request, given.shaped()) {
+            (Err(Unwritten { number: 1 | 2, .. }), false) | (Err(Unwritten { number: 1 | 4 | 22, .. }), true) => Ok(Compared { request, line, crate_writes: None }),
+            _ => Err(format!("not as the counts say, or with a stray reset, and not told by 1, 2, 4 or 22: {request:?}")),
         };
     }
     let by_crate = write_crate::write(&write_crate::record(given, given.top()));

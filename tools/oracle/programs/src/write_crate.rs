@@ -1,20 +1,22 @@
-//! A circuit written by the crate's `Writer::write_ordered_aig`, with every latch beginning with 0.
-use crate::write_words::Given;
+//! A circuit written by the crate's `Writer::write_ordered_aig`.
+use crate::{circuit::start, write_words::Given};
 use flussab::DeferredWriter;
 use flussab_aiger::{aig, binary};
 use std::panic;
 
-/// The crate's record of a circuit whose lists are those that its counts tell of. `top` is its `max_var_index`.
+/// The crate's record of a circuit of which it has one. `top` is its `max_var_index`.
 pub fn record(given: &Given, top: u64) -> aig::OrderedAig<u32> {
     let mut roots = given.roots.iter().copied();
     let mut next = |count: u32| roots.by_ref().take(count as usize).collect::<Vec<u32>>();
     let [outputs, bad_state_properties, invariant_constraints, fairness_constraints, justice] =
         <[u32; 5]>::try_from(&given.counts[..]).expect("five counts").map(&mut next);
     let mut justice = justice.into_iter();
+    let latches = given.nexts.iter().zip(&given.resets).zip(given.states());
+    let latch = |((&next_state, &reset), state)| aig::OrderedLatch { next_state, initialization: start(state, reset as u64) };
     aig::OrderedAig {
         max_var_index: top as usize,
         input_count: given.inputs as usize,
-        latches: given.nexts.iter().map(|&next_state| aig::OrderedLatch { next_state, initialization: Some(false) }).collect(),
+        latches: latches.map(latch).collect(),
         outputs,
         bad_state_properties,
         invariant_constraints,

@@ -5,7 +5,13 @@ use crate::write_words::Given;
 pub type Case = (Given, usize, Result<&'static [u8], (u32, u64, u64)>, Option<&'static [u8]>);
 
 fn given(inputs: u32, counts: [u32; 5], nexts: &[u32], gates: &[u32], sizes: &[u32], roots: &[u32]) -> Given {
-    Given { inputs, counts: counts.to_vec(), nexts: nexts.to_vec(), gates: gates.to_vec(), sizes: sizes.to_vec(), roots: roots.to_vec() }
+    latched(inputs, counts, [nexts, &vec![0; nexts.len()]], gates, sizes, roots)
+}
+
+/// The same with resets beside the next states.
+fn latched(inputs: u32, counts: [u32; 5], [nexts, resets]: [&[u32]; 2], gates: &[u32], sizes: &[u32], roots: &[u32]) -> Given {
+    let list = |list: &[u32]| list.to_vec();
+    Given { inputs, counts: list(&counts), nexts: list(nexts), resets: list(resets), gates: list(gates), sizes: list(sizes), roots: list(roots) }
 }
 
 pub fn cases() -> Vec<Case> {
@@ -37,6 +43,25 @@ pub fn cases() -> Vec<Case> {
         // the order of check 4: gates, next states, roots
         (given(0, [1, 0, 0, 0, 0], &[8], &[0, 7], &[], &[9]), 0, Err((4, 7, 0)), None),
         (given(0, [1, 0, 0, 0, 0], &[8], &[0, 0], &[], &[9]), 0, Err((4, 8, 0)), Some(b"aig 2 0 1 1 1\n8\n9\n\x04\0")),
+        // resets: each kind that is written; one too few or too many; over; stray; 2 before 4, latch by latch, 4 before 22, 22 before 23 and 3
+        good(latched(0, none, [&[0], &[0]], &[], &[], &[]), b"aig 1 0 1 0 0\n0\n"),
+        good(latched(0, none, [&[0], &[1]], &[], &[], &[]), b"aig 1 0 1 0 0\n0 1\n"),
+        good(latched(0, none, [&[0], &[2]], &[], &[], &[]), b"aig 1 0 1 0 0\n0 2\n"),
+        good(latched(1, none, [&[2, 3, 6], &[1, 6, 0]], &[], &[], &[]), b"aig 4 1 3 0 0\n2 1\n3 6\n6\n"),
+        good(latched(1, [1, 0, 0, 0, 0], [&[6], &[4]], &[4, 2], &[], &[7]), b"aig 3 1 1 1 1\n6 4\n7\n\x02\x02"),
+        (latched(0, none, [&[0], &[]], &[], &[], &[]), 99, Err((2, 0, 0)), None),
+        (latched(0, none, [&[0], &[0, 0]], &[], &[], &[]), 99, Err((2, 0, 0)), None),
+        (latched(0, none, [&[9], &[]], &[], &[], &[]), 99, Err((2, 0, 0)), None),
+        (latched(0, none, [&[0], &[4]], &[], &[], &[]), 99, Err((4, 4, 0)), None),
+        (latched(0, none, [&[0], &[3]], &[], &[], &[]), 99, Err((22, 3, 0)), None),
+        (latched(1, none, [&[0], &[2]], &[], &[], &[]), 99, Err((22, 2, 0)), None),
+        (latched(0, none, [&[0, 0], &[2, 2]], &[], &[], &[]), 99, Err((22, 2, 0)), None),
+        (latched(0, none, [&[0, 0], &[4, 3]], &[], &[], &[]), 99, Err((22, 4, 0)), None),
+        (latched(0, none, [&[0, 9], &[8, 0]], &[], &[], &[]), 99, Err((4, 8, 0)), None),
+        (latched(0, none, [&[9, 0], &[8, 0]], &[], &[], &[]), 99, Err((4, 9, 0)), None),
+        (latched(0, [1, 0, 0, 0, 0], [&[0], &[3]], &[], &[], &[9]), 99, Err((4, 9, 0)), None),
+        (latched(0, none, [&[0], &[3]], &[0, 1], &[], &[]), 0, Err((22, 3, 0)), None),
+        (latched(0, none, [&[0], &[2]], &[], &[], &[]), 17, Err((3, 0, 18)), Some(b"aig 1 0 1 0 0\n0 2\n")),
         // counts up to the last that is not zero; sizes before literals, justice before fairness
         good(given(1, [0, 1, 0, 0, 0], &[], &[], &[], &[2]), b"aig 1 1 0 0 0 1\n2\n"),
         good(given(1, [0, 0, 0, 1, 0], &[], &[], &[], &[2]), b"aig 1 1 0 0 0 0 0 0 1\n2\n"),

@@ -21,6 +21,8 @@ pub fn of_sizes(random: &mut Random, inputs: u64, latches: u64, gates: u64, coun
     let codes = 2 * (inputs + latches + gates) + 2;
     let literals = |count: u64, random: &mut Random| -> Vec<u32> { (0..count).map(|_| any_code(random, codes)).collect() };
     let nexts = literals(latches, random);
+    let style = random.below(4);
+    let resets = (0..latches).map(|index| a_reset(random, style, 2 * (inputs + 1 + index))).collect();
     let roots = literals(counts.iter().sum(), random);
     let mut sizes = vec![0; sets as usize];
     for _ in 0..if sets > 0 { counts[4] } else { 0 } {
@@ -32,7 +34,16 @@ pub fn of_sizes(random: &mut Random, inputs: u64, latches: u64, gates: u64, coun
         let first = code - 1 - near(random, code - 1);
         pairs.extend([first as u32, (first - near(random, first)) as u32]);
     }
-    Given { inputs: inputs as u32, counts: counts.map(|count| count as u32).to_vec(), nexts, gates: pairs, sizes, roots }
+    Given { inputs: inputs as u32, counts: counts.map(|count| count as u32).to_vec(), nexts, resets, gates: pairs, sizes, roots }
+}
+
+/// A reset of the latch: 0 in the first style, the latch's own literal in the second, and any that it can have in the others.
+fn a_reset(random: &mut Random, style: u64, own: u64) -> u32 {
+    match (style, random.below(3)) {
+        (0, _) | (2.., 0) => 0,
+        (2.., 1) => 1,
+        _ => own as u32,
+    }
 }
 
 /// A code below so many: any, at a border, or the largest.
@@ -77,11 +88,18 @@ type Fault = fn(&mut Random, &mut Given);
 const EDGES: [u32; 12] =
     [0, 1, 1_048_574, 1_048_575, 1_048_576, 2_097_151, 2_097_152, 1 << 31, (1 << 31) - 1, u32::MAX, u32::MAX - 1, 524_288];
 
-/// The list of codes, gates, next states or roots, that a number falls in.
+/// One of the codes: of gates, next states, resets or roots.
 fn a_code<'a>(random: &mut Random, given: &'a mut Given) -> Option<&'a mut u32> {
-    let all = given.gates.len() + given.nexts.len() + given.roots.len();
+    let all = given.gates.len() + given.nexts.len() + given.resets.len() + given.roots.len();
     let index = random.index(all);
-    given.gates.iter_mut().chain(&mut given.nexts).chain(&mut given.roots).nth(index)
+    given.gates.iter_mut().chain(&mut given.nexts).chain(&mut given.resets).chain(&mut given.roots).nth(index)
+}
+
+/// One of the latches: its place and its own literal.
+fn a_latch(random: &mut Random, given: &Given) -> Option<(usize, u32)> {
+    let latches = given.nexts.len().min(given.resets.len());
+    let index = random.index(latches);
+    (latches > 0).then_some((index, (2 * (given.inputs as u64 + 1 + index as u64)) as u32))
 }
 
 /// One of the gates: its place and its own code.
@@ -92,7 +110,7 @@ fn a_gate(random: &mut Random, given: &Given) -> Option<(usize, u64)> {
 }
 
 /// Faults, each with its share.
-const FAULTS: [(u64, Fault); 17] = [
+const FAULTS: [(u64, Fault); 21] = [
     (3, |random, given| given.inputs = random.pick(&EDGES)),
     (4, |random, given| {
         // V at the limit, or just over it
@@ -156,8 +174,35 @@ const FAULTS: [(u64, Fault); 17] = [
         let largest = (given.top() as u32).wrapping_mul(2).wrapping_add(1);
         let over = largest.wrapping_add(1);
         let code = random.pick(&[largest, over, over, over.wrapping_add(1), u32::MAX, 1 << 31]);
-        if given.gates.len() + given.nexts.len() + given.roots.len() > 0 {
-            *a_code(random, given).unwrap() = code;
+        if let Some(found) = a_code(random, given) {
+            *found = code;
+        }
+    }),
+    (10, |random, given| {
+        // a reset that the latch cannot have, but where it is its own: the literal negated, another's, any code
+        if let Some((place, own)) = a_latch(random, given) {
+            let codes = 2 * given.top() + 2;
+            let any = random.below(codes) as u32;
+            given.resets[place] = random.pick(&[own ^ 1, own ^ 1, own.wrapping_add(2), own.wrapping_sub(2), any, 2, 3]);
+        }
+    }),
+    (4, |random, given| {
+        // a reset that is over, or just not
+        if let Some((place, _)) = a_latch(random, given) {
+            let largest = (given.top() as u32).wrapping_mul(2).wrapping_add(1);
+            given.resets[place] = random.pick(&[largest, largest.wrapping_add(1), u32::MAX]);
+        }
+    }),
+    (4, |random, given| match random.below(3) {
+        0 => drop(given.resets.pop()),
+        1 => given.resets.push(random.below(4) as u32),
+        _ => given.resets.clear(),
+    }),
+    (2, |random, given| {
+        // a latch and its reset gone: the literals of the latches behind it are others
+        if let Some((place, _)) = a_latch(random, given) {
+            given.nexts.remove(place);
+            given.resets.remove(place);
         }
     }),
     (6, |random, given| {
@@ -219,17 +264,17 @@ pub fn room(random: &mut Random, given: &Given) -> usize {
 }
 
 /// Every circuit of two gates over an input or with a root, and of one gate with two latches, with two inputs and a root, or with an input, a latch and a
-/// root, of all codes up to 2V+2, one more than there are; every shape with up to two inputs, latches and gates and up to two of each kind of root, in up to two
+/// root, and of two latches and an input, of all codes up to 2V+2, one more than there are, resets too; every shape with up to two inputs, latches and gates and up to two of each kind of root, in up to two
 /// justice sets; and each pair of deltas at a border.
 pub fn small(random: &mut Random, mut tell: impl FnMut(&Given)) {
-    for (inputs, latches, gates, roots) in [(0, 0, 0, 0), (1, 0, 2, 0), (0, 0, 2, 1), (1, 1, 1, 1), (0, 2, 1, 0), (2, 0, 1, 1)] {
+    for (inputs, latches, gates, roots) in [(0, 0, 0, 0), (1, 0, 2, 0), (0, 0, 2, 1), (1, 1, 1, 1), (0, 2, 1, 0), (2, 0, 1, 1), (1, 2, 0, 0)] {
         let bound: u32 = 2 * (inputs + latches + gates) + 3;
-        let codes = latches + 2 * gates + roots;
+        let codes = 2 * latches + 2 * gates + roots;
         for choice in 0..bound.pow(codes) {
             let mut word = (0..codes).map(|place| choice / bound.pow(place) % bound);
             let mut next = |count: u32| word.by_ref().take(count as usize).collect::<Vec<u32>>();
-            let [nexts, pairs, literals] = [latches, 2 * gates, roots].map(&mut next);
-            tell(&Given { inputs, counts: vec![roots, 0, 0, 0, 0], nexts, gates: pairs, sizes: vec![], roots: literals });
+            let [nexts, resets, pairs, literals] = [latches, latches, 2 * gates, roots].map(&mut next);
+            tell(&Given { inputs, counts: vec![roots, 0, 0, 0, 0], nexts, resets, gates: pairs, sizes: vec![], roots: literals });
         }
     }
     for choice in 0..27 * 243 * 3u64 {
@@ -268,6 +313,18 @@ pub fn large(random: &mut Random, mut tell: impl FnMut(&Given)) {
         }
         tell(&of_sizes(random, 3, 0, 1, [0; 5], size));
         tell(&of_sizes(random, 0, 0, 1, [size / 2, 0, 0, 0, size - size / 2], size));
+    }
+    // more resets than there may be latches: too many for the latches that there are, and no size of its own
+    for latches in [0, 3, LIMIT] {
+        let mut given = of_sizes(random, 0, latches, 0, [0; 5], 0);
+        given.resets.resize(LIMIT as usize + 1, 0);
+        tell(&given);
+    }
+    // the last latch there can be, with its own literal for its reset, that negated, and a code that is over
+    let mut last = of_sizes(random, 0, LIMIT, 0, [0; 5], 0);
+    for reset in [2 * LIMIT as u32, 2 * LIMIT as u32 + 1, 2 * LIMIT as u32 + 2] {
+        *last.resets.last_mut().expect("a latch") = reset;
+        tell(&last);
     }
     let mut last = of_sizes(random, 0, 0, LIMIT, [0; 5], 0);
     // the last gate there can be, with its own code, with inputs exchanged, and with a code that is over

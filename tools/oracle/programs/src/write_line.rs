@@ -1,7 +1,7 @@
 //! One question about writing, as a line of text, and the answer as another.
 //!
 //! A question is one of
-//!     write BYTES INPUTS K count.. N next.. G word.. S size.. R root..
+//!     write BYTES INPUTS K count.. N next.. T reset.. G word.. S size.. R root..
 //!     again HEX
 //! In the first a list that is empty is left out; so many bytes are lent. The second is a file, which is read and written into as many bytes as it has.
 //! An answer is `W number literal bytes HEX` with every lent byte, `-` for none; one that is not written is 165. A file that is refused is `R number place`.
@@ -18,7 +18,7 @@ const BEFORE: u8 = 165;
 
 /// The question for a circuit and so many bytes.
 pub fn question(given: &Given, room: usize) -> String {
-    let lists = [("K", &given.counts), ("N", &given.nexts), ("G", &given.gates), ("S", &given.sizes), ("R", &given.roots)];
+    let lists = [("K", &given.counts), ("N", &given.nexts), ("T", &given.resets), ("G", &given.gates), ("S", &given.sizes), ("R", &given.roots)];
     let mut line = format!("write {room} {}", given.inputs);
     for (letter, list) in lists.into_iter().filter(|(_, list)| !list.is_empty()) {
         line.push_str(&format!(" {letter}"));
@@ -51,6 +51,7 @@ fn parse(text: &str) -> (Given, usize) {
         match word {
             "K" => list = &mut given.counts,
             "N" => list = &mut given.nexts,
+            "T" => list = &mut given.resets,
             "G" => list = &mut given.gates,
             "S" => list = &mut given.sizes,
             "R" => list = &mut given.roots,

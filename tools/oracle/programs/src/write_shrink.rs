@@ -10,7 +10,7 @@ pub fn smallest(mut given: Given, differ: impl Fn(&Given) -> bool) -> Given {
 
 /// How many words there are, and their sum: each step makes this less.
 fn weight(given: &Given) -> (usize, u64) {
-    let lists = [&given.counts, &given.nexts, &given.gates, &given.sizes, &given.roots];
+    let lists = [&given.counts, &given.nexts, &given.resets, &given.gates, &given.sizes, &given.roots];
     let sum = lists.iter().flat_map(|list| list.iter()).map(|&word| word as u64).sum::<u64>();
     (lists.iter().map(|list| list.len()).sum(), sum + given.inputs as u64)
 }
@@ -23,7 +23,7 @@ fn candidates(given: &Given) -> Vec<Given> {
         all.push(other);
     };
     // halves and single words of each list
-    for list in 0..5 {
+    for list in 0..6 {
         let length = lists(&mut given.clone())[list].len();
         let mut part = length.div_ceil(2);
         while part > 0 {
@@ -33,10 +33,16 @@ fn candidates(given: &Given) -> Vec<Given> {
             part /= 2;
         }
     }
-    // a latch with its variable
-    for latch in (0..given.nexts.len()).take(60) {
+    // a latch with its reset, and with its variable too
+    for latch in (0..given.nexts.len().min(given.resets.len())).take(60) {
         with(&|other| {
             other.nexts.remove(latch);
+            other.resets.remove(latch);
+        });
+        with(&|other| {
+            other.nexts.remove(latch);
+            other.resets.remove(latch);
+            other.resets[latch..].iter_mut().filter(|reset| **reset > 1).for_each(|reset| *reset -= 2);
             let lists = [&mut other.nexts, &mut other.gates, &mut other.roots];
             lists.into_iter().flatten().for_each(|word| *word = word.saturating_sub(2));
         });
@@ -66,16 +72,21 @@ fn candidates(given: &Given) -> Vec<Given> {
             lists.into_iter().flatten().filter(|word| **word >= code).for_each(|word| *word -= 2);
         });
     }
-    // numbers that are smaller, and all codes with an input away
-    for less in [given.inputs, given.inputs / 2, 1] {
+    // numbers that are smaller, and all codes with an input away; where there is none the steps below are longer
+    for less in [given.inputs, given.inputs / 2, given.inputs.min(1)] {
+        if less == 0 {
+            continue;
+        }
+        let twice = less.saturating_mul(2);
         with(&|other| other.inputs = other.inputs.saturating_sub(less));
         with(&|other| {
             other.inputs = other.inputs.saturating_sub(less);
+            other.resets.iter_mut().filter(|reset| **reset > 1).for_each(|reset| *reset = reset.saturating_sub(twice));
             let lists = [&mut other.nexts, &mut other.gates, &mut other.roots];
-            lists.into_iter().flatten().for_each(|word| *word = word.saturating_sub(2 * less));
+            lists.into_iter().flatten().for_each(|word| *word = word.saturating_sub(twice));
         });
     }
-    for list in 0..5 {
+    for list in 0..6 {
         for at in 0..lists(&mut given.clone())[list].len().min(60) {
             for less in [u32::MAX, 1 << 31, 128, 2, 1] {
                 with(&|other| {
@@ -93,6 +104,6 @@ fn candidates(given: &Given) -> Vec<Given> {
     all
 }
 
-fn lists(given: &mut Given) -> [&mut Vec<u32>; 5] {
-    [&mut given.counts, &mut given.nexts, &mut given.gates, &mut given.sizes, &mut given.roots]
+fn lists(given: &mut Given) -> [&mut Vec<u32>; 6] {
+    [&mut given.counts, &mut given.nexts, &mut given.resets, &mut given.gates, &mut given.sizes, &mut given.roots]
 }

@@ -1,4 +1,4 @@
-//! Request Q-4, writing an ordered circuit as a binary file, as document 02's words have it and not as the crate's code does. By the other `Rules` it writes as
+//! Requests, writing an ordered circuit as a binary file, as document 02's words have it and not as the crate's code does. By the other `Rules` it writes as
 //! the crate would, were the lines of docs/DIFFERENCES.md all that sets the two apart: so that those lines can be held to the crate, each by itself.
 use crate::{
     circuit::put,
@@ -12,6 +12,7 @@ pub struct Given {
     /// How many outputs, bad states, constraints, fairness constraints and justice literals: the walk's order. A caller in C may lend more or fewer than five.
     pub counts: Vec<u32>,
     pub nexts: Vec<u32>,
+    pub resets: Vec<u32>,
     /// Two words a gate.
     pub gates: Vec<u32>,
     pub sizes: Vec<u32>,
@@ -33,6 +34,7 @@ pub enum Line {
     Size,
     Shape,
     Code,
+    Stray,
     Swapped,
     Own,
     Above,
@@ -46,6 +48,7 @@ impl Line {
             Line::Size => "a size over 1,048,575 (1)",
             Line::Shape => "counts or sizes that are not those of the lists (2), of which the crate has no record",
             Line::Code => "a code over 2V+1 (4)",
+            Line::Stray => "a reset that is not 0, 1 or the latch's own literal (22), which the crate's type cannot hold",
             Line::Swapped => "a gate's first input below its second (23), which the crate exchanges",
             Line::Own => "a gate's first input its own code (23), which the crate writes as a first delta of zero",
             Line::Above => "a gate's larger input above its own code (23), where the crate panics",
@@ -62,6 +65,7 @@ impl From<&Ordered> for Given {
             inputs: circuit.inputs as u32,
             counts: words(&circuit.counts),
             nexts: words(&circuit.nexts),
+            resets: words(&circuit.resets),
             gates: words(&circuit.gates),
             sizes: words(&circuit.sizes),
             roots: words(&circuit.roots),
@@ -80,22 +84,39 @@ impl Given {
         2 * (self.inputs as u64 + self.nexts.len() as u64 + 1)
     }
 
+    /// The latches' own literals.
+    pub fn states(&self) -> impl Iterator<Item = u64> + '_ {
+        (self.inputs as u64 + 1..).map(|variable| 2 * variable).take(self.nexts.len())
+    }
+
+    /// The first reset that is not 0, 1 or the latch's own literal.
+    pub fn stray(&self) -> Option<u32> {
+        let resets = self.resets.iter().zip(self.states());
+        resets.filter(|&(&reset, state)| reset > 1 && reset as u64 != state).map(|(&reset, _)| reset).next()
+    }
+
     /// The gates, each with its own code.
     fn coded(&self) -> impl Iterator<Item = (u64, u64, u64)> + '_ {
         let codes = (0..).map(|index| self.first_code() + 2 * index);
         codes.zip(self.gates.chunks_exact(2)).map(|(code, pair)| (code, pair[0] as u64, pair[1] as u64))
     }
 
-    /// Whether the lists are those that the counts and sizes tell of, so that the crate has a record of the circuit.
+    /// Whether the crate has a record of the circuit: the lists are those that the counts and sizes tell of, and each latch has a reset that it can have.
+    pub fn recorded(&self) -> bool {
+        self.shaped() && self.stray().is_none()
+    }
+
+    /// Whether the lists are those that the counts and sizes tell of, and there is a reset for each latch.
     pub fn shaped(&self) -> bool {
         let sum = |list: &[u32]| list.iter().map(|&count| count as u64).sum::<u64>();
         self.counts.len() == 5
             && self.gates.len() % 2 == 0
+            && self.resets.len() == self.nexts.len()
             && sum(&self.counts) == self.roots.len() as u64
             && sum(&self.sizes) == self.counts[4] as u64
     }
 
-    /// The first of the checks 1, 2, 4 and 23 that does not pass, with the line that tells how the crate takes it.
+    /// The first of the checks 1, 2, 4, 22 and 23 that does not pass, with the line that tells how the crate takes it.
     pub fn fault(&self) -> Option<(Unwritten, Line)> {
         let no = |number, literal, line| Some((Unwritten { number, literal, needed: 0 }, line));
         if self.counts.len() != 5 {
@@ -110,8 +131,12 @@ impl Given {
         }
         let largest = 2 * self.top() + 1;
         let over = |code: &&u32| **code as u64 > largest;
-        if let Some(&code) = self.gates.iter().chain(&self.nexts).chain(&self.roots).find(over) {
+        let latches = self.nexts.iter().zip(&self.resets).flat_map(|(next, reset)| [next, reset]);
+        if let Some(&code) = self.gates.iter().chain(latches).chain(&self.roots).find(over) {
             return no(4, code as u64, Line::Code);
+        }
+        if let Some(reset) = self.stray() {
+            return no(22, reset as u64, Line::Stray);
         }
         for (code, first, second) in self.coded() {
             if first >= code || first < second {
@@ -137,16 +162,16 @@ impl Given {
         let mut text = String::from("aig");
         header.iter().for_each(|count| text.push_str(&format!(" {count}")));
         text.push('\n');
-        let mut line = |number: &u32| text.push_str(&format!("{number}\n"));
         // the walk's order is outputs, bad, constraints, fairness, justice; the file's has justice before fairness
         let kept = outputs as usize + bad as usize + constraints as usize;
         let (first, rest) = self.roots.split_at(kept);
         let (fair, justice) = rest.split_at(fairness as usize);
-        self.nexts.iter().for_each(&mut line);
-        first.iter().for_each(&mut line);
-        self.sizes.iter().for_each(&mut line);
-        justice.iter().for_each(&mut line);
-        fair.iter().for_each(&mut line);
+        let mut lines: Vec<String> = self.nexts.iter().zip(&self.resets).map(|(next, reset)| match reset {
+            0 => next.to_string(),
+            _ => format!("{next} {reset}"),
+        }).collect();
+        lines.extend(first.iter().chain(&self.sizes).chain(justice).chain(fair).map(u32::to_string));
+        lines.iter().for_each(|line| text.extend([line, "\n"]));
         let mut bytes = text.into_bytes();
         for (code, first, second) in self.coded() {
             let (larger, smaller) = (first.max(second), first.min(second));
@@ -169,8 +194,8 @@ pub fn write(given: &Given, room: usize) -> Result<Vec<u8>, Unwritten> {
     }
 }
 
-/// Whether a file that can be read is spelled as it would be written: no optional count past the last that is not zero, no reset field, every delta in
-/// its fewest bytes, and nothing after the last gate.
+/// Whether a file that can be read is spelled as it would be written: no optional count past the last that is not zero, a reset field only where the reset
+/// is not 0, every delta in its fewest bytes, and nothing after the last gate.
 pub fn plain(bytes: &[u8]) -> bool {
     let mut rest = bytes;
     let mut line = || {
@@ -184,7 +209,7 @@ pub fn plain(bytes: &[u8]) -> bool {
     if header.len() > 6 && header[header.len() - 1] == "0" {
         return false;
     }
-    let mut fields = (0..count(3)).map(|_| line().contains(' ')).collect::<Vec<bool>>();
+    let mut fields = (0..count(3)).map(|_| line().ends_with(" 0")).collect::<Vec<bool>>();
     (0..count(4) + count(6) + count(7)).for_each(|_| {
         line();
     });

@@ -40,19 +40,20 @@ or-else-requires-3 c κs = search needs
 
 returns : tie.Need-returns
 returns c =
-    let orElse2At = c .before .before in
+    let overIn2At = c .before in
+    let orElse2At = overIn2At .before in
     let orElseAt = orElse2At .before in
     let overInLatchesAt = orElseAt .before in
     let overInAt = overInLatchesAt .before in
     let wideAt = overInAt .before in
     let indexAt = wideAt .before in
-    let entry = indexAt .before .before .before .before .before in
+    let entry = indexAt .before .before .before .before .before .before in
     let a = entry .args in
     let e = wideAt .wide .ensures ∙ indexAt .index .ensures in
-    c .or-else3 .ensures ∙ ap₂ orElse (c .before .over-in2 .ensures ∙ ap (λ (t : ℕ). firstIn t (now (a .inputs))) e)
+    c .or-else3 .ensures ∙ ap₂ orElse (overIn2At .over-in2 .ensures ∙ ap (λ (t : ℕ). firstIn t (now (a .inputs))) e)
     (orElse2At .or-else2 .ensures ∙ ap (orElse (a .gates))
     (orElseAt .or-else .ensures ∙ ap₂ orElse (overInLatchesAt .over-in-latches .ensures ∙ ap
-    (λ (t : ℕ). firstIn t (latchCodes (now (a .states)) (now (a .nexts)))) e)
+    (λ (t : ℕ). firstIn t (latchCodes (now (a .states)) (now (a .nexts)) (now (a .resets)))) e)
     (overInAt .over-in .ensures ∙ ap (λ (t : ℕ). firstIn t (now (a .roots))) e)))
 
 pub over-all-spec : {M : Type 1} → statement M

@@ -10,7 +10,7 @@ use Rattle.circuit.specs.Walk.{firstCode}
 use Rattle.circuit.specs.Ordered.{InOrder}
 use Rattle.circuit.specs.Outcome.{pairsOf}
 use Rattle.lines.specs.Sections.{rootsOf}
-use Rattle.sections.specs.Bytes.{linesBytes, headerBytes, rootsBytes}
+use Rattle.sections.specs.Bytes.{latchesBytes, headerBytes, rootsBytes}
 use Rattle.binary.specs.File.{tag}
 use Rattle.binary.specs.Write.{gatesBytes, partsOf}
 use borrow.Author.Needs.{needs}
@@ -29,8 +29,8 @@ slice-aggregate-put-header c = search needs
 put-header-requires : tie.Need-put-header-requires
 put-header-requires c κs = search needs
 
-put-lines-requires : tie.Need-put-lines-requires
-put-lines-requires c κs = search needs
+put-latches-requires : tie.Need-put-latches-requires
+put-latches-requires c κs = search needs
 
 put-roots-requires : tie.Need-put-roots-requires
 put-roots-requires c κs = search needs
@@ -38,7 +38,7 @@ put-roots-requires c κs = search needs
 put-gates-requires : tie.Need-put-gates-requires
 put-gates-requires c κs =
     let wideAt = c .before .before .before .before .before .before .before .before .before .before .before .before .before .before in
-    let entry = wideAt .before .before .before .before .before .before in
+    let entry = wideAt .before .before .before .before .before .before .before in
     let n : wideAt .wide .result ≡ entry .args .h .inputs = wideAt .wide .ensures in
     let in-order = subst⁻¹ (λ (k : ℕ). InOrder (k + length (now (entry .args .nexts))) (pairsOf (now (entry .args .gates)))) n (entry .pre .1) in
     (omega (arith, n, entry .pre .0), in-order)
@@ -51,23 +51,24 @@ unfolding partsOf
 returns c =
     let gatesAt = c .before .before in
     let rootsAt = gatesAt .before .before .before .before in
-    let linesAt = rootsAt .before .before .before .before in
-    let headerAt = linesAt .before .before .before .before in
+    let latchesAt = rootsAt .before .before .before .before in
+    let headerAt = latchesAt .before .before .before .before in
     let wideAt = headerAt .before .before .before in
-    let entry = wideAt .before .before .before .before .before .before in
+    let entry = wideAt .before .before .before .before .before .before .before in
     let h = entry .args .h in
     let nexts = now (entry .args .nexts) in
+    let resets = now (entry .args .resets) in
     let n = h .inputs + length nexts in
     let roots = rootsBytes h (rootsOf (now (entry .args .sizes)) (now (entry .args .roots))) in
     let gates = gatesBytes (firstCode n) (pairsOf (now (entry .args .gates))) in
     let made = gatesBytes (firstCode (wideAt .wide .result + length nexts)) (pairsOf (now (entry .args .gates))) in
     let from : made ≡ gates
     = ap (λ (k : ℕ). gatesBytes (firstCode (k + length nexts)) (pairsOf (now (entry .args .gates)))) (wideAt .wide .ensures) in
-    let all = onward-all (now (entry .args .out)) 0 (headerBytes tag h ++ (linesBytes nexts ++ (roots ++ gates))) in
+    let all = onward-all (now (entry .args .out)) 0 (headerBytes tag h ++ (latchesBytes nexts resets ++ (roots ++ gates))) in
     let headed =
-    onward all (headerBytes tag h) (linesBytes nexts ++ (roots ++ gates)) refl _ _ (omega arith) (headerAt .put-header .ensures .0)
+    onward all (headerBytes tag h) (latchesBytes nexts resets ++ (roots ++ gates)) refl _ _ (omega arith) (headerAt .put-header .ensures .0)
     (headerAt .put-header .ensures .1) in
-    let latched = onward headed (linesBytes nexts) (roots ++ gates) refl _ _ (omega arith) (linesAt .put-lines .ensures .0) (linesAt .put-lines .ensures .1) in
+    let latched = onward headed (latchesBytes nexts resets) (roots ++ gates) refl _ _ (omega arith) (latchesAt .put-latches .ensures .0) (latchesAt .put-latches .ensures .1) in
     let rooted =
     onward latched roots made (ap (λ (l : List ℕ). roots ++ l) (sym from)) _ _ (omega arith) (rootsAt .put-roots .ensures .0)
     (rootsAt .put-roots .ensures .1) in
@@ -81,7 +82,7 @@ put-file-spec =
     add-sources
     slice-aggregate-put-header
     put-header-requires
-    put-lines-requires
+    put-latches-requires
     put-roots-requires
     put-gates-requires
     same-length

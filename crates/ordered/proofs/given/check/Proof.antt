@@ -5,9 +5,9 @@ use Rattle.ordered.proofs.given.check.Tie as tie
 use denote.Ref.{now}
 use mathlib.Core.Path.{sym, _∙_}
 use native.Mathlib.Omega.{arith}
-use Rattle.ordered.proofs.Exactly.{even-words}
-use Rattle.ordered.proofs.Checks.{lent, counts-variables, counts-first, few-words, none-in-order, small}
-use Rattle.ordered.proofs.Checks.{answers-1, answers-2, answers-4, answers-23, answers-fits}
+use Rattle.ordered.proofs.Exactly.{even-words, as-many-resets}
+use Rattle.ordered.proofs.Checks.{lent, counts-variables, counts-first, counts-latches, few-words, few-resets, none-in-order, small}
+use Rattle.ordered.proofs.Checks.{answers-1, answers-2, answers-last}
 
 wide-requires : tie.Need-wide-requires
 wide-requires c κs = search needs
@@ -25,8 +25,8 @@ returns : tie.Need-returns
 returns c =
     let largeAt = c .before in
     let wideAt = largeAt .before in
-    let a = wideAt .before .before .before .before .before .args in
-    let w = lent (a .o) (now (a .nexts)) (now (a .gates)) (now (a .sizes)) (now (a .roots)) in
+    let a = wideAt .before .before .before .before .before .before .args in
+    let w = lent (a .o) (now (a .nexts)) (now (a .resets)) (now (a .gates)) (now (a .sizes)) (now (a .roots)) in
     let v = counts-variables w _ (wideAt .wide .ensures) in
     answers-1 w (a .asked .0) _ v _ (largeAt .is-too-large .ensures) (c .if1 .taken)
 
@@ -35,8 +35,8 @@ is-uneven-requires c κs =
     let if1At = c .before in
     let largeAt = if1At .before in
     let wideAt = largeAt .before in
-    let a = wideAt .before .before .before .before .before .args in
-    let w = lent (a .o) (now (a .nexts)) (now (a .gates)) (now (a .sizes)) (now (a .roots)) in
+    let a = wideAt .before .before .before .before .before .before .args in
+    let w = lent (a .o) (now (a .nexts)) (now (a .resets)) (now (a .gates)) (now (a .sizes)) (now (a .roots)) in
     let v = counts-variables w _ (wideAt .wide .ensures) in
     small w (a .asked .0) _ v _ (largeAt .is-too-large .ensures) (if1At .if1 .left) .1
 
@@ -46,8 +46,8 @@ returns-2 c =
     let if1At = unevenAt .before .before in
     let largeAt = if1At .before in
     let wideAt = largeAt .before in
-    let a = wideAt .before .before .before .before .before .args in
-    let w = lent (a .o) (now (a .nexts)) (now (a .gates)) (now (a .sizes)) (now (a .roots)) in
+    let a = wideAt .before .before .before .before .before .before .args in
+    let w = lent (a .o) (now (a .nexts)) (now (a .resets)) (now (a .gates)) (now (a .sizes)) (now (a .roots)) in
     let v = counts-variables w _ (wideAt .wide .ensures) in
     answers-2 w (a .asked .0) _ v _ (largeAt .is-too-large .ensures) (if1At .if1 .left) _ (unevenAt .is-uneven .ensures) (c .if2 .taken)
 
@@ -62,8 +62,8 @@ first-disordered-requires c κs =
     let if1At = c .before .before .before in
     let largeAt = if1At .before in
     let wideAt = largeAt .before in
-    let a = wideAt .before .before .before .before .before .args in
-    let w = lent (a .o) (now (a .nexts)) (now (a .gates)) (now (a .sizes)) (now (a .roots)) in
+    let a = wideAt .before .before .before .before .before .before .args in
+    let w = lent (a .o) (now (a .nexts)) (now (a .resets)) (now (a .gates)) (now (a .sizes)) (now (a .roots)) in
     let v = counts-variables w _ (wideAt .wide .ensures) in
     few-words w _ (wideAt .wide .ensures) (small w (a .asked .0) _ v _ (largeAt .is-too-large .ensures) (if1At .if1 .left) .0)
 
@@ -78,74 +78,53 @@ over-requires c κs =
     let if2At = c .before in
     let unevenAt = if2At .before in
     let wideAt = unevenAt .before .before .before .before in
-    let a = wideAt .before .before .before .before .before .args in
-    let w = lent (a .o) (now (a .nexts)) (now (a .gates)) (now (a .sizes)) (now (a .roots)) in
+    let a = wideAt .before .before .before .before .before .before .args in
+    let w = lent (a .o) (now (a .nexts)) (now (a .resets)) (now (a .gates)) (now (a .sizes)) (now (a .roots)) in
     let even = even-words w (sym (unevenAt .is-uneven .ensures) ∙ if2At .if2 .left) in
     none-in-order _ _ (now (a .gates)) even (omega (arith, even)) (c .first-disordered .result) (c .first-disordered .ensures)
 
-enum-known-large : tie.Need-enum-known-large
-enum-known-large c = search needs
+wide-requires-2 : tie.Need-wide-requires-2
+wide-requires-2 c κs = search needs
 
-enum-told : tie.Need-enum-told
-enum-told c = search needs
+add-first-stray : tie.Need-add-first-stray
+add-first-stray c = search needs
 
-enum-known-loose : tie.Need-enum-known-loose
-enum-known-loose c = search needs
+mul-first-stray : tie.Need-mul-first-stray
+mul-first-stray c = search needs
 
-enum-told-2 : tie.Need-enum-told-2
-enum-told-2 c = search needs
+first-stray-requires : tie.Need-first-stray-requires
+first-stray-requires c κs =
+    let if2At = c .before .before .before in
+    let unevenAt = if2At .before in
+    let if1At = unevenAt .before .before in
+    let largeAt = if1At .before in
+    let wideAt = largeAt .before in
+    let a = wideAt .before .before .before .before .before .before .args in
+    let w = lent (a .o) (now (a .nexts)) (now (a .resets)) (now (a .gates)) (now (a .sizes)) (now (a .roots)) in
+    let v = counts-variables w _ (wideAt .wide .ensures) in
+    few-resets w _ (c .wide2 .ensures) (as-many-resets w (sym (unevenAt .is-uneven .ensures) ∙ if2At .if2 .left)) v
+    (small w (a .asked .0) _ v _ (largeAt .is-too-large .ensures) (if1At .if1 .left) .0)
+
+told-requires : tie.Need-told-requires
+told-requires c κs = search needs
 
 returns-3 : tie.Need-returns-3
 returns-3 c =
-    let codeAt = c .before in
-    let overAt = codeAt .before .before in
-    let if2At = overAt .before .before in
-    let unevenAt = if2At .before in
-    let if1At = unevenAt .before .before in
-    let largeAt = if1At .before in
-    let wideAt = largeAt .before in
-    let a = wideAt .before .before .before .before .before .args in
-    let w = lent (a .o) (now (a .nexts)) (now (a .gates)) (now (a .sizes)) (now (a .roots)) in
-    let v = counts-variables w _ (wideAt .wide .ensures) in
-    answers-4 w (a .asked .0) _ v _ (largeAt .is-too-large .ensures)
-    (if1At .if1 .left) _ (unevenAt .is-uneven .ensures) (if2At .if2 .left) _ (overAt .over .ensures) _ (codeAt .large .given .1)
-
-returns-4 : tie.Need-returns-4
-returns-4 c =
-    let gateAt = c .before in
-    let toldAt = gateAt .before .before in
-    let overAt = toldAt .before .before in
+    let strayAt = c .before in
+    let wide2At = strayAt .before in
+    let overAt = wide2At .before in
     let disorderedAt = overAt .before in
     let if2At = disorderedAt .before in
     let unevenAt = if2At .before in
     let if1At = unevenAt .before .before in
     let largeAt = if1At .before in
     let wideAt = largeAt .before in
-    let a = wideAt .before .before .before .before .before .args in
-    let w = lent (a .o) (now (a .nexts)) (now (a .gates)) (now (a .sizes)) (now (a .roots)) in
+    let a = wideAt .before .before .before .before .before .before .args in
+    let w = lent (a .o) (now (a .nexts)) (now (a .resets)) (now (a .gates)) (now (a .sizes)) (now (a .roots)) in
     let v = counts-variables w _ (wideAt .wide .ensures) in
-    let t = counts-first w _ (wideAt .wide .ensures) in
-    answers-23 w (a .asked .0) _ v _ (largeAt .is-too-large .ensures)
-    (if1At .if1 .left) _ (unevenAt .is-uneven .ensures) (if2At .if2 .left) _ (overAt .over .ensures) (toldAt .enum-told .given .1) _ t _
-    (disorderedAt .first-disordered .ensures) _ (gateAt .loose .given .1)
-
-returns-5 : tie.Need-returns-5
-returns-5 c =
-    let toldAt = c .before .before in
-    let overAt = toldAt .before .before in
-    let disorderedAt = overAt .before in
-    let if2At = disorderedAt .before in
-    let unevenAt = if2At .before in
-    let if1At = unevenAt .before .before in
-    let largeAt = if1At .before in
-    let wideAt = largeAt .before in
-    let a = wideAt .before .before .before .before .before .args in
-    let w = lent (a .o) (now (a .nexts)) (now (a .gates)) (now (a .sizes)) (now (a .roots)) in
-    let v = counts-variables w _ (wideAt .wide .ensures) in
-    let t = counts-first w _ (wideAt .wide .ensures) in
-    answers-fits w (a .asked .0) _ v _ (largeAt .is-too-large .ensures)
-    (if1At .if1 .left) _ (unevenAt .is-uneven .ensures) (if2At .if2 .left) _ (overAt .over .ensures) (toldAt .enum-told .given .1) _ t _
-    (disorderedAt .first-disordered .ensures) (c .enum-told2 .given .1)
+    answers-last w (a .asked .0) _ v _ (largeAt .is-too-large .ensures) (if1At .if1 .left) _ (unevenAt .is-uneven .ensures) (if2At .if2 .left) _ _ _ _ _
+    (overAt .over .ensures) (counts-latches w _ (wide2At .wide2 .ensures)) (strayAt .first-stray .ensures)
+    (counts-first w _ (wideAt .wide .ensures)) (disorderedAt .first-disordered .ensures) _ (c .told .ensures)
 
 pub check-spec : {M : Type 1} → statement M
 check-spec =
@@ -164,10 +143,9 @@ check-spec =
     mul-over
     add-over
     over-requires
-    enum-known-large
-    enum-told
-    enum-known-loose
-    enum-told-2
-    returns-3
-    returns-4
-    returns-5)
+    wide-requires-2
+    add-first-stray
+    mul-first-stray
+    first-stray-requires
+    told-requires
+    returns-3)

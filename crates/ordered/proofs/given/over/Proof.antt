@@ -4,10 +4,10 @@ use Rattle.ordered.proofs.given.over.Statement.{statement}
 use Rattle.ordered.proofs.given.over.Tie as tie
 use denote.Ref.{now}
 use mathlib.Core.Path.{_∙_}
-use Rattle.ordered.proofs.Checks.{in-gates, in-nexts, in-roots, in-asked, in-none}
+use Rattle.ordered.proofs.Checks.{in-gates, in-latches, in-roots, in-asked, in-none}
 
 over-in-gates-requires : tie.Need-over-in-gates-requires
-over-in-gates-requires c κs = c .before .before .before .pre
+over-in-gates-requires c κs = c .before .before .before .before .pre
 
 enum-told : tie.Need-enum-told
 enum-told c = search needs
@@ -15,34 +15,34 @@ enum-told c = search needs
 returns : tie.Need-returns
 returns c =
     let gatesAt = c .before .before in
-    let a = gatesAt .before .before .before .before .args in
+    let a = gatesAt .before .before .before .before .before .args in
     c .enum-told .given .1
-    ∙ in-gates (a .bound) (now (a .gates)) (now (a .nexts)) (now (a .roots)) (a .asked .0) _ (gatesAt .over-in-gates .ensures) _ (c .enum-told .given .1)
+    ∙ in-gates (a .bound) (now (a .gates)) (now (a .nexts)) (now (a .resets)) (now (a .roots)) (a .asked .0) _ (gatesAt .over-in-gates .ensures) _ (c .enum-told .given .1)
 
 enum-told-2 : tie.Need-enum-told-2
 enum-told-2 c = search needs
 
-over-in-requires : tie.Need-over-in-requires
-over-in-requires c κs = search needs
+over-in-latches-requires : tie.Need-over-in-latches-requires
+over-in-latches-requires c κs = search needs
 
 enum-told-3 : tie.Need-enum-told-3
 enum-told-3 c = search needs
 
 returns-2 : tie.Need-returns-2
 returns-2 c =
-    let nextsAt = c .before .before in
-    let gatesTold = nextsAt .before in
+    let latchesAt = c .before .before in
+    let gatesTold = latchesAt .before in
     let gatesAt = gatesTold .before .before in
-    let a = gatesAt .before .before .before .before .args in
+    let a = gatesAt .before .before .before .before .before .args in
     c .enum-told3 .given .1
-    ∙ in-nexts (a .bound) (now (a .gates)) (now (a .nexts)) (now (a .roots)) (a .asked .0) _ (gatesAt .over-in-gates .ensures)
-    (gatesTold .enum-told2 .given .1) _ (nextsAt .over-in .ensures) _ (c .enum-told3 .given .1)
+    ∙ in-latches (a .bound) (now (a .gates)) (now (a .nexts)) (now (a .resets)) (now (a .roots)) (a .asked .0) _ (gatesAt .over-in-gates .ensures)
+    (gatesTold .enum-told2 .given .1) _ (latchesAt .over-in-latches .ensures) _ (c .enum-told3 .given .1)
 
 enum-told-4 : tie.Need-enum-told-4
 enum-told-4 c = search needs
 
-over-in-requires-2 : tie.Need-over-in-requires-2
-over-in-requires-2 c κs = search needs
+over-in-requires : tie.Need-over-in-requires
+over-in-requires c κs = search needs
 
 enum-told-5 : tie.Need-enum-told-5
 enum-told-5 c = search needs
@@ -50,14 +50,14 @@ enum-told-5 c = search needs
 returns-3 : tie.Need-returns-3
 returns-3 c =
     let rootsAt = c .before .before in
-    let nextsTold = rootsAt .before in
-    let nextsAt = nextsTold .before .before in
-    let gatesTold = nextsAt .before in
+    let latchesTold = rootsAt .before in
+    let latchesAt = latchesTold .before .before in
+    let gatesTold = latchesAt .before in
     let gatesAt = gatesTold .before .before in
-    let a = gatesAt .before .before .before .before .args in
+    let a = gatesAt .before .before .before .before .before .args in
     c .enum-told5 .given .1
-    ∙ in-roots (a .bound) (now (a .gates)) (now (a .nexts)) (now (a .roots)) (a .asked .0) _ (gatesAt .over-in-gates .ensures)
-    (gatesTold .enum-told2 .given .1) _ (nextsAt .over-in .ensures) (nextsTold .enum-told4 .given .1) _ (rootsAt .over-in2 .ensures) _
+    ∙ in-roots (a .bound) (now (a .gates)) (now (a .nexts)) (now (a .resets)) (now (a .roots)) (a .asked .0) _ (gatesAt .over-in-gates .ensures)
+    (gatesTold .enum-told2 .given .1) _ (latchesAt .over-in-latches .ensures) (latchesTold .enum-told4 .given .1) _ (rootsAt .over-in .ensures) _
     (c .enum-told5 .given .1)
 
 enum-told-6 : tie.Need-enum-told-6
@@ -75,13 +75,13 @@ returns-4 c =
     let codeAt = wideAt .before in
     let rootsTold = codeAt .before in
     let rootsAt = rootsTold .before .before in
-    let nextsTold = rootsAt .before in
-    let nextsAt = nextsTold .before .before in
-    let gatesTold = nextsAt .before in
+    let latchesTold = rootsAt .before in
+    let latchesAt = latchesTold .before .before in
+    let gatesTold = latchesAt .before in
     let gatesAt = gatesTold .before .before in
-    let a = gatesAt .before .before .before .before .args in
-    in-asked (a .bound) (now (a .gates)) (now (a .nexts)) (now (a .roots)) (a .asked .0) _ (gatesAt .over-in-gates .ensures)
-    (gatesTold .enum-told2 .given .1) _ (nextsAt .over-in .ensures) (nextsTold .enum-told4 .given .1) _ (rootsAt .over-in2 .ensures)
+    let a = gatesAt .before .before .before .before .before .args in
+    in-asked (a .bound) (now (a .gates)) (now (a .nexts)) (now (a .resets)) (now (a .roots)) (a .asked .0) _ (gatesAt .over-in-gates .ensures)
+    (gatesTold .enum-told2 .given .1) _ (latchesAt .over-in-latches .ensures) (latchesTold .enum-told4 .given .1) _ (rootsAt .over-in .ensures)
     (rootsTold .enum-told6 .given .1) _ (wideAt .wide .ensures ∙ codeAt .code .ensures) (c .if1 .taken)
 
 returns-5 : tie.Need-returns-5
@@ -90,13 +90,13 @@ returns-5 c =
     let codeAt = wideAt .before in
     let rootsTold = codeAt .before in
     let rootsAt = rootsTold .before .before in
-    let nextsTold = rootsAt .before in
-    let nextsAt = nextsTold .before .before in
-    let gatesTold = nextsAt .before in
+    let latchesTold = rootsAt .before in
+    let latchesAt = latchesTold .before .before in
+    let gatesTold = latchesAt .before in
     let gatesAt = gatesTold .before .before in
-    let a = gatesAt .before .before .before .before .args in
-    in-none (a .bound) (now (a .gates)) (now (a .nexts)) (now (a .roots)) (a .asked .0) _ (gatesAt .over-in-gates .ensures)
-    (gatesTold .enum-told2 .given .1) _ (nextsAt .over-in .ensures) (nextsTold .enum-told4 .given .1) _ (rootsAt .over-in2 .ensures)
+    let a = gatesAt .before .before .before .before .before .args in
+    in-none (a .bound) (now (a .gates)) (now (a .nexts)) (now (a .resets)) (now (a .roots)) (a .asked .0) _ (gatesAt .over-in-gates .ensures)
+    (gatesTold .enum-told2 .given .1) _ (latchesAt .over-in-latches .ensures) (latchesTold .enum-told4 .given .1) _ (rootsAt .over-in .ensures)
     (rootsTold .enum-told6 .given .1) _ (wideAt .wide .ensures ∙ codeAt .code .ensures) (c .if1 .left)
 
 pub over-spec : {M : Type 1} → statement M
@@ -107,11 +107,11 @@ over-spec =
     enum-told
     returns
     enum-told-2
-    over-in-requires
+    over-in-latches-requires
     enum-told-3
     returns-2
     enum-told-4
-    over-in-requires-2
+    over-in-requires
     enum-told-5
     returns-3
     enum-told-6

@@ -1,6 +1,6 @@
 //! The crate against the documents' words, and how high the crate's stack grows.
 //!
-//!     against_words small                         every circuit of up to two gates, and most of three
+//!     against_words small                         every circuit of up to two gates, and most of three; every one of a latch and no gate
 //!     against_words random SEED COUNT MAXGATES    random circuits that pass checks 1 to 4
 //!     against_words deep                          the circuit that fills the stack, up to 1,048,575 gates
 //!     against_words tokens < questions            questions about tokens; of pairs with the difference that is listed
@@ -59,6 +59,9 @@ impl Tally {
             Ok(Some(refused)) => self.count(format!("refused {}", refused.0)),
             Err(words) => self.disagree(words),
         }
+        if circuit.stray().is_some() {
+            return;
+        }
         let (height, room) = (walk_words::deepest(circuit), 2 * circuit.gates.len());
         if height > room {
             self.disagree(format!("the crate's stack has {height} entries, and {room} are two a gate"));
@@ -76,6 +79,19 @@ fn small(tally: &mut Tally) {
         every(tally, 0, flags, &[0, 1, 2, 3, 4, 5], true);
         every(tally, 1, flags, &(0..8).collect::<Vec<u64>>(), true);
         every(tally, 2, flags, &(0..10).collect::<Vec<u64>>(), true);
+    }
+    for choice in 0..8 * 8u64.pow(4) {
+        // an input and a latch, of which all three codes are any, and a root
+        let mut codes = [1, 8, 64, 512].map(|power| choice / power % 8).into_iter();
+        let mut next = || codes.next().unwrap();
+        tally.compare(&Circuit {
+            largest: 3,
+            inputs: vec![2],
+            latches: vec![[next(), next(), next()]],
+            roots: [vec![next()], vec![], vec![], vec![], vec![]],
+            flags: choice / 4096,
+            ..Circuit::default()
+        });
     }
     for flags in [0, 7] {
         // The signs of constants and of the input do not steer the walk.
@@ -120,6 +136,7 @@ fn random(tally: &mut Tally, mut random: Random, count: u64, gates: u64) {
         let mut circuit = circuit_kinds::valid(&mut random, gates);
         let (_, _, fault) = random.pick(&circuit_kinds::FAULTS);
         fault(&mut random, &mut circuit);
+        circuit_kinds::with_resets(&mut random, &mut circuit);
         match sheet::renumber(&circuit) {
             Err(sheet::Refused(4, _)) => tally.count("passed over: refused 4".into()),
             _ => tally.compare(&circuit),

@@ -4,7 +4,7 @@
 //!     binary < files
 //!
 //! An answer is the file again, the refusal's number or 0, and the eleven words that `imdagluz_read_aig` answers with; for a file that is taken next states,
-//! gates (two words each), justice sizes and roots follow.
+//! resets, gates (two words each), justice sizes and roots follow.
 use judge::{
     file_compare::{compare, Compared},
     file_words::{Reading, AMPLE},

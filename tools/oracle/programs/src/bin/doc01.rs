@@ -1,4 +1,4 @@
-//! Every example of document 01, with request Q-2's pairs, of the review of the definitions and of the papers, asked of the crate.
+//! Every example of document 01, with request Q-2's pairs and Q-7's resets, of the review of the definitions and of the papers, asked of the crate.
 //!
 //!     doc01
 //!
@@ -10,7 +10,7 @@ use flussab_aiger::{
 };
 use judge::{
     circuit::Circuit,
-    examples::{CIRCUITS, CONSUMED, CRATE_ALONE, HALF_ADDER, KNOWN, PAIRS_ALONE, SHEETS, TEXTS, TOKENS},
+    examples::{CIRCUITS, CONSUMED, CRATE_ALONE, HALF_ADDER, KNOWN, PAIRS_ALONE, RESETS, SHEETS, TEXTS, TOKENS},
     hex, sheet,
     token_line::{answer, Question},
     walk_words,
@@ -29,6 +29,9 @@ fn main() {
     for (words, expected) in CIRCUITS {
         let answer = sheet::report(&circuit(words).sheet());
         tally.note(words, expected, &joined(&answer), None);
+    }
+    for (words, expected) in RESETS {
+        tally.note(words, expected, &resets(words), None);
     }
     let entry = renumbered("V=0").1.lit_map().get(0);
     tally.note("* V=0: map entry 0", "Some(0)", &format!("{entry:?}"), None);
@@ -116,7 +119,7 @@ fn joined(answer: &str) -> String {
 /// The circuit that the words name. V is the least that passes check 4 unless it is given.
 fn circuit(words: &str) -> Circuit {
     let mut circuit = Circuit::default();
-    let mut lists: [Vec<u64>; 8] = Default::default();
+    let mut lists: [Vec<u64>; 9] = Default::default();
     let (mut list, mut largest) = (0, None);
     for word in words
         .split(|c: char| " ,()*".contains(c))
@@ -129,6 +132,7 @@ fn circuit(words: &str) -> Circuit {
             "root" | "roots" => list = 3,
             "fairness" => list = 6,
             "justice" => list = 7,
+            "reset" | "resets" => list = 8,
             "trim" => circuit.flags |= 1,
             "hash" => circuit.flags |= 2,
             "fold" => circuit.flags |= 4,
@@ -138,14 +142,29 @@ fn circuit(words: &str) -> Circuit {
             },
         }
     }
-    let [inputs, gates, latches, roots @ ..] = lists;
+    let [inputs, gates, latches, outputs, bad, constraints, fairness, justice, resets] = lists;
+    let mut resets = resets.into_iter();
     circuit.inputs = inputs;
     circuit.gates = gates.chunks(3).map(|g| [g[0], g[1], g[2]]).collect();
-    circuit.latches = latches.chunks(2).map(|l| [l[0], l[1]]).collect();
-    circuit.roots = roots;
+    circuit.latches = latches.chunks(2).map(|l| [l[0], l[1], resets.next().unwrap_or(0)]).collect();
+    circuit.roots = [outputs, bad, constraints, fairness, justice];
     let least = circuit.codes().into_iter().max().unwrap_or(0) / 2;
     circuit.largest = largest.unwrap_or(least);
     circuit
+}
+
+/// What the resets of a circuit become, or why it is refused; the crate's and the words' answers are held to each other.
+fn resets(words: &str) -> String {
+    let circuit = circuit(words);
+    let answer = match sheet::renumber(&circuit) {
+        Ok((ordered, _)) => format!("resets {:?}", sheet::reset_images(&ordered)),
+        Err(sheet::Refused(number, literal)) => format!("refused {number} {literal}"),
+    };
+    let over = answer.starts_with("refused 4");
+    match if over { Ok(None) } else { walk_words::compare(&circuit) } {
+        Ok(_) => answer,
+        Err(differ) => differ,
+    }
 }
 
 /// What the crate makes of a circuit that it takes, without document 01's checks.

@@ -47,7 +47,7 @@ fn written() -> u32 {
     for (given, room, answer, by_crate) in &cases {
         let expected = answer.map(<[u8]>::to_vec).map_err(|(number, literal, needed)| Unwritten { number, literal, needed });
         let found = write(given, *room);
-        let crate_bytes = given.shaped().then(|| write_crate::write(&write_crate::record(given, given.top()))).flatten();
+        let crate_bytes = given.recorded().then(|| write_crate::write(&write_crate::record(given, given.top()))).flatten();
         if found != expected || crate_bytes.as_deref() != *by_crate {
             println!("DISAGREES {given:?}, {room} bytes: {found:?}, and not {expected:?}; the crate: {}", write_compare::shown(&crate_bytes));
             disagree += 1;

@@ -6,12 +6,12 @@
 //! faulty, but for those that are longer than the program of the gate that is asked has room for.
 use judge::{random::Random, write_examples, write_kinds, write_line::question, write_words::Given};
 
-/// How many counts, next states, gate words, sizes and roots there is room for, and how many bytes.
-const ROOM: [usize; 5] = [8, 16, 128, 8, 32];
+/// How many counts, next states, resets, gate words, sizes and roots there is room for, and how many bytes.
+const ROOM: [usize; 6] = [8, 16, 16, 128, 8, 32];
 const BYTES: usize = 256;
 
 fn fits(given: &Given, bytes: usize) -> bool {
-    let lengths = [&given.counts, &given.nexts, &given.gates, &given.sizes, &given.roots].map(Vec::len);
+    let lengths = [&given.counts, &given.nexts, &given.resets, &given.gates, &given.sizes, &given.roots].map(Vec::len);
     bytes <= BYTES && lengths.iter().zip(ROOM).all(|(&length, room)| length <= room)
 }
 
