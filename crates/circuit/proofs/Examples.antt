@@ -132,6 +132,7 @@ resets =
     successWith (latched 4 (4 ∷ 7 ∷ 8 ∷ []) (2 ∷ 4 ∷ 5 ∷ []) (1 ∷ 7 ∷ 0 ∷ [])) 0 4 (0 ∷ 2 ∷ 4 ∷ 7 ∷ 8 ∷ []) (2 ∷ 4 ∷ 5 ∷ []) (1 ∷ 6 ∷ 0 ∷ []) [] (2 ∷ [])
     -- an odd state: 5 with reset 5 is unset, with reset 4 it is 22; and so 4 with reset 5
     ∷ successWith (latched 2 (5 ∷ []) (0 ∷ []) (5 ∷ [])) 0 2 (0 ∷ 2 ∷ 5 ∷ []) (0 ∷ []) (4 ∷ []) [] (2 ∷ [])
+    ∷ successWith (lendWith plain 2 (4 ∷ []) (2 ∷ []) (0 ∷ []) (2 ∷ []) [] (outputs 0) []) 0 2 (0 ∷ 4 ∷ 2 ∷ []) (0 ∷ []) (4 ∷ []) [] []
     ∷ earlyRefusal (latched 2 (5 ∷ []) (0 ∷ []) (4 ∷ [])) (Reset (literal 4))
     ∷ earlyRefusal (latched 2 (4 ∷ []) (0 ∷ []) (5 ∷ [])) (Reset (literal 5))
     -- the input's literal is no reset, and that of another latch is none; the first of two is named
@@ -140,6 +141,9 @@ resets =
     ∷ earlyRefusal (latched 3 (4 ∷ 6 ∷ []) (0 ∷ 0 ∷ []) (6 ∷ 4 ∷ [])) (Reset (literal 6))
     -- 4 before 22: a root over 2V + 1, and a later latch's next state; the reset itself over it is 4, after its latch's next state
     ∷ earlyRefusal (lendWith plain 1 [] (2 ∷ []) (0 ∷ []) (3 ∷ []) [] (outputs 1) (4 ∷ [])) (Over (literal 4))
+    -- the second latch's reset over 7, and its next state before it
+    ∷ earlyRefusal (latched 3 (4 ∷ 6 ∷ []) (0 ∷ 0 ∷ []) (0 ∷ 8 ∷ [])) (Over (literal 8))
+    ∷ earlyRefusal (latched 3 (4 ∷ 6 ∷ []) (0 ∷ 9 ∷ []) (0 ∷ 8 ∷ [])) (Over (literal 9))
     ∷ earlyRefusal (latched 3 (4 ∷ 6 ∷ []) (0 ∷ 8 ∷ []) (2 ∷ 0 ∷ [])) (Over (literal 8))
     ∷ earlyRefusal (latched 2 (4 ∷ []) (0 ∷ []) (6 ∷ [])) (Over (literal 6))
     ∷ earlyRefusal (latched 2 (4 ∷ []) (7 ∷ []) (6 ∷ [])) (Over (literal 7))

@@ -337,9 +337,12 @@ pub ordered-pinned :
     × (given (record { inputs = 3; nexts = 0 ∷ []; resets = 1 ∷ []; gates = []; counts = []; roots = [] }) false false false .inputs ≡ (2 ∷ 4 ∷ 6 ∷ []))
     × (given (record { inputs = 3; nexts = 0 ∷ []; resets = 1 ∷ []; gates = []; counts = []; roots = [] }) false false false .states ≡ (8 ∷ []))
     × (given (record { inputs = 3; nexts = 0 ∷ []; resets = 1 ∷ []; gates = []; counts = []; roots = [] }) false false false .resets ≡ (1 ∷ []))
+    -- the latches are as many as the next states
+    × (sourcesOf (record { inputs = 3; nexts = 0 ∷ []; resets = []; gates = []; counts = []; roots = [] }) ≡ 4)
+    × (given (record { inputs = 3; nexts = 0 ∷ []; resets = []; gates = []; counts = []; roots = [] }) false false false .states ≡ (8 ∷ []))
 unfolding outcome conclusion tooBig misshapen tooShort after renumber numbered codes walkAll walked start store flipped walk look imageIn entryImage
     throughInputs settle settleOn settleAs already nextCode firstCode folded codeOf orderedOf imagesIn held given orderedGraph
-ordered-pinned = (refl, refl, refl, refl, refl, refl, refl, refl, refl, refl, refl, refl, refl, refl)
+ordered-pinned = (refl, refl, refl, refl, refl, refl, refl, refl, refl, refl, refl, refl, refl, refl, refl, refl)
 
 -- ordered over one source: larger codes first and equal ones allowed, each below its gate's code, 4 and then 6; and three lists that are not
 pub order-pinned :
