@@ -143,7 +143,28 @@ latches-cleared R r before mid e why place after f a b c x y z =
     section-no putLatches noLatches R r before mid e why place after f (three (x ∙ ap zeros a) (y ∙ ap zeros b) (z ∙ ap zeros c))
 
 -- and back: what a caller knows of a section's lists
-pub section-stores : {A L : Type 0} (put : A → L → L) (clear : L → L) (R : Read A) (r : Ended) (before after : L)
+section-stores : {A L : Type 0} (put : A → L → L) (clear : L → L) (R : Read A) (r : Ended) (before after : L)
     → sectionSeen r after ≡ sectionLeft put clear R before → Stores put R r before after
 section-stores {L = L} put clear (got a at) r before after e = (ap (λ (o : SectionLeft L). o .answer) e, ap (λ (o : SectionLeft L). o .lists) e)
 section-stores {L = L} put clear (no why place) r before after e = ap (λ (o : SectionLeft L). o .answer) e
+
+pub record StoredIn {A L : Type 0} (put : A → L → L) (R : Read A) (at : ℕ) (before after : L) : Type 0 where
+  pub values : A
+  pub read : R ≡ got values at
+  pub stored : after ≡ put values before
+
+pub section-stored : {A L : Type 0} (put : A → L → L) (clear : L → L) (R : Read A) (r : Ended) (before after : L)
+    → sectionSeen r after ≡ sectionLeft put clear R before → (at : ℕ) → r ≡ After at → StoredIn put R at before after
+section-stored {A} {L} put clear R r before after e at f = go R (section-stores put clear R r before after e)
+  where
+    go : (Q : Read A) → Stores put Q r before after → StoredIn put Q at before after
+    go (got a p) (u, v) = let h : p ≡ at = cc in record { values = a; read = ap (got a) h; stored = v }
+    go (no why p) u = absurd (let z : _≡_ {A = ℕ} 0 1 = cc in omega arith)
+
+pub section-refused : {A L : Type 0} (put : A → L → L) (clear : L → L) (R : Read A) (r : Ended) (before after : L)
+    → sectionSeen r after ≡ sectionLeft put clear R before → (why : Fault) (place : ℕ) → r ≡ Broken why place → R ≡ no why place
+section-refused {A} {L} put clear R r before after e why place f = go R (section-stores put clear R r before after e)
+  where
+    go : (Q : Read A) → Stores put Q r before after → Q ≡ no why place
+    go (got a p) (u, v) = absurd (let z : _≡_ {A = ℕ} 0 1 = cc in omega arith)
+    go (no w p) u = let a : w ≡ why = cc in let b : p ≡ place = cc in ap (λ (x : Fault). no x p) a ∙ ap (no why) b
