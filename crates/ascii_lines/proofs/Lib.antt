@@ -1,2 +1,3 @@
 pub mod Defined
 pub mod Spelled
+pub mod Known

@@ -36,7 +36,8 @@ module _ (most : ℕ) where
   unfolding gateAt inputPairAt
   gate =
       also-number defines (λ output. also-number (count most) (λ first. also-number (count most) (λ second.
-      also (byte 10) (λ _. nothing (gateWith output first second))) (λ second g w t. newline-starts g w t)) (λ first g w t. count-starts g w t)) (λ output g w t. count-starts g w t)
+      also (byte 10) (λ _. nothing (gateWith output first second))) (λ second g w t. newline-starts g w t))
+      (λ first g w t. count-starts g w t)) (λ output g w t. count-starts g w t)
 
 pub inputs : (most n : ℕ) → Exactly (λ s at. inputsAt s most n at) (Inputs most n) Anything
 unfolding inputsAt
