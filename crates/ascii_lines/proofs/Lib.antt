@@ -1,3 +1,4 @@
 pub mod Defined
 pub mod Spelled
 pub mod Known
+pub mod NeverShort
