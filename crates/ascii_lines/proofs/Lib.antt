@@ -2,3 +2,4 @@ pub mod Defined
 pub mod Spelled
 pub mod Known
 pub mod NeverShort
+pub mod Pins
