@@ -21,7 +21,7 @@ use Rattle.lines.proofs.Known.{latch-within, each-of}
 use Rattle.ordered.specs.Expand.{gateWords}
 use Rattle.ascii_lines.specs.Lines.{definedAt, inputAt, inputsAt, Stated, statedLatch, statesOf, nextsOf, resetsOf, statedAt, latchesAt}
 use Rattle.ascii_lines.specs.Lines.{gateWith, inputPairAt, gateAt, gatesAt}
-use Rattle.ascii_lines.proofs.Defined.{defined-number}
+use Rattle.ascii_lines.proofs.Literals.{defined-number}
 
 -- a literal that a line defines
 

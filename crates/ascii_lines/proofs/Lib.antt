@@ -1,4 +1,4 @@
-pub mod Defined
+pub mod Literals
 pub mod Spelled
 pub mod Known
 pub mod NeverShort

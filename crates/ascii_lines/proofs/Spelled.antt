@@ -6,7 +6,7 @@ use Rattle.lines.proofs.Exactly.{Exactly, Anything, NoDigit, nothing, byte, dec
 use Rattle.lines.proofs.Spelled.{also, also-number, space-starts, newline-starts, count-starts, latch, count}
 use Rattle.ascii_lines.specs.Lines.{statedLatch, gateWith, definedAt, inputAt, inputsAt, statedAt, latchesAt, inputPairAt, gateAt, gatesAt}
 use Rattle.ascii_lines.specs.Spelling.{Defines, Input, Inputs, StatedLine, StatedLines, GateLine, GateLines}
-use Rattle.ascii_lines.proofs.Defined.{defined-number, number-defined}
+use Rattle.ascii_lines.proofs.Literals.{defined-number, number-defined}
 
 module _ (most : ℕ) where
   -- a literal that a line defines: a number that passes two tests
