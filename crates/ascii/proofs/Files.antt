@@ -3,7 +3,7 @@ use Prim.Native.Nat.{ℕ, _*_}
 use mathlib.Core.Path.{_≡_, refl, sym, ap, _∙_, subst}
 use mathlib.Core.List.{List}
 use native.Mathlib.Omega.{arith}
-use lib.ListN.{length, length-map}
+use lib.ListN.{length}
 use Rattle.circuit.specs.Graph.{Gate}
 use Rattle.lines.specs.declared.Fault.{Fault}
 use Rattle.lines.specs.declared.Ended.{Ended}
@@ -14,33 +14,18 @@ use Rattle.lines.specs.declared.Header.{Header}
 use Rattle.lines.specs.Reading.{Read, got, no}
 use Rattle.lines.specs.Sections.{Roots, rootsOf, topCode, rootsAt}
 use Rattle.lines.specs.Promise.{StoresRoots, seen, rootsLeft}
-use Rattle.lines.proofs.Heads.{row-length}
 use Rattle.lines.proofs.Sections.{rooted-stores}
 use Rattle.lines.proofs.Known.{Rooted, roots-known}
 use Rattle.ordered.specs.Expand.{gateWords}
 use Rattle.ordered.proofs.Laid.{put-onto}
 use Rattle.binary.proofs.Files.{StoredRoots, stored-roots, refused-roots}
-use Rattle.ascii_lines.specs.Lines.{inputAt, inputsAt, Stated, statesOf, nextsOf, resetsOf, statedAt, latchesAt, gateAt, gatesAt}
+use Rattle.ascii_lines.specs.Lines.{inputsAt, Stated, statesOf, nextsOf, resetsOf, latchesAt, gatesAt}
 use Rattle.ascii_lines.specs.Promise.{sectionSeen, sectionLeft, putNumbers, noNumbers, putGates, LatchLists, latchLists, putLatches, noLatches}
+use Rattle.ascii_lines.proofs.Known.{inputs-length, states-length, nexts-length, resets-length, gates-length}
 use Rattle.ascii_lines.proofs.Loops.{words-length, StoredIn, section-stored, section-refused}
 use Rattle.ascii.specs.Text.{Text, textWith, listsAt}
 use Rattle.ascii.specs.Promise.{Lists, listsOf, roomOf, StoresText, Roomy}
 use Rattle.ascii.proofs.Seven.{seven}
-
--- lengths of what is read
-
-module _ (s : List ℕ) (most n at end : ℕ) where
-  pub inputs-length : (vs : List ℕ) → inputsAt s most n at ≡ got vs end → length vs ≡ n
-  unfolding inputsAt
-  inputs-length vs e = row-length (λ k. inputAt s most) 0 n at vs end e
-
-  pub latches-length : (ls : List Stated) → latchesAt s most n at ≡ got ls end → length ls ≡ n
-  unfolding latchesAt
-  latches-length ls e = row-length (λ k. statedAt s most) 0 n at ls end e
-
-  pub gates-length : (gs : List Gate) → gatesAt s most n at ≡ got gs end → length gs ≡ n
-  unfolding gatesAt
-  gates-length gs e = row-length (λ k. gateAt s most) 0 n at gs end e
 
 listed : (s : List ℕ) (room : ℕ) (h : Header) (at p₁ p₂ p₃ p₄ : ℕ) (vs : List ℕ) (ls : List Stated) (p : Roots) (gs : List Gate)
     → inputsAt s (topCode h) (h .inputs) at ≡ got vs p₁ → latchesAt s (topCode h) (h .latches) p₁ ≡ got ls p₂
@@ -136,12 +121,11 @@ module _ (s : List ℕ) (h : Header) (at : ℕ) (inputs states nexts resets gate
               let whole =
               listed s (length roots) h at p₁ p₂ p₃ p₄ (given .values) (latched .values) (rooted .values) (g .values) (given .read) (latched .read) (rooted .read)
               (g .read) in
-              let n₃ : length (given .values) ≡ h .inputs = inputs-length s (topCode h) (h .inputs) at p₁ (given .values) (given .read) in
-              let n₄ : length (latched .values) ≡ h .latches = latches-length s (topCode h) (h .latches) p₁ p₂ (latched .values) (latched .read) in
-              let n₅ : length (g .values) ≡ h .gates = gates-length s (topCode h) (h .gates) p₃ p₄ (g .values) (g .read) in
-              let k₁ : length (statesOf (latched .values)) ≡ length (latched .values) = length-map (latched .values) (λ l. l .state) in
-              let k₂ : length (nextsOf (latched .values)) ≡ length (latched .values) = length-map (latched .values) (λ l. l .next) in
-              let k₃ : length (resetsOf (latched .values)) ≡ length (latched .values) = length-map (latched .values) (λ l. l .reset) in
+              let n₃ = inputs-length s (topCode h) (h .inputs) at (given .values) p₁ (given .read) in
+              let k₁ = states-length s (topCode h) (h .latches) p₁ (latched .values) p₂ (latched .read) in
+              let k₂ = nexts-length s (topCode h) (h .latches) p₁ (latched .values) p₂ (latched .read) in
+              let k₃ = resets-length s (topCode h) (h .latches) p₁ (latched .values) p₂ (latched .read) in
+              let n₅ = gates-length s (topCode h) (h .gates) p₃ (g .values) p₄ (g .read) in
               let k₄ : length (gateWords (g .values)) ≡ 3 * length (g .values) = words-length (g .values) in
               subst
               (λ (R : Read Text). StoresText R (Is justice p₄) (listsOf inputs states nexts resets gates sizes roots)
@@ -149,11 +133,11 @@ module _ (s : List ℕ) (h : Header) (at : ℕ) (inputs states nexts resets gate
                 ap (λ (k : ℕ). Is k p₄) (rooted .sum),
                 seven (given .stored ∙ put-onto inputs (given .values) (omega (arith, n₃, big .inputs-fit)))
                     (ap (λ (l : LatchLists). l .states) (latched .stored)
-                    ∙ put-onto states (statesOf (latched .values)) (omega (arith, n₄, k₁, big .states-fit)))
+                    ∙ put-onto states (statesOf (latched .values)) (omega (arith, k₁, big .states-fit)))
                     (ap (λ (l : LatchLists). l .nexts) (latched .stored)
-                    ∙ put-onto nexts (nextsOf (latched .values)) (omega (arith, n₄, k₂, big .nexts-fit)))
+                    ∙ put-onto nexts (nextsOf (latched .values)) (omega (arith, k₂, big .nexts-fit)))
                     (ap (λ (l : LatchLists). l .resets) (latched .stored)
-                    ∙ put-onto resets (resetsOf (latched .values)) (omega (arith, n₄, k₃, big .resets-fit)))
+                    ∙ put-onto resets (resetsOf (latched .values)) (omega (arith, k₃, big .resets-fit)))
                     (g .stored ∙ put-onto gates (gateWords (g .values)) (omega (arith, n₅, k₄, big .gates-fit)))
                     (rooted .sizes-put ∙ put-onto sizes (rooted .values .sizes) (omega (arith, known .sets, big .sizes-fit)))
                     (rooted .roots-put ∙ put-onto roots (rooted .values .roots) (omega (arith, known .all, known .fits))),

@@ -5,7 +5,7 @@ use mathlib.Core.Bool.{Bool, true, false, cond, _||_}
 use mathlib.Core.List.{List, [], _∷_}
 use native.Mathlib.Omega.{arith}
 use lib.Dec.{ltb}
-use lib.ListN.{length, length-map}
+use lib.ListN.{length}
 use borrow.Author.Tests.{lt-ltb, le-ltb, ltb-false}
 use Rattle.circuit.specs.Graph.{Gate}
 use Rattle.circuit.specs.Outcome.{total, zeros}
@@ -28,12 +28,12 @@ use Rattle.binary.specs.declared.FileAnswer.the-variants.{Taken}
 use Rattle.binary.specs.File.{countsOf}
 use Rattle.binary.proofs.Whole.{counts-got, counts-no}
 use Rattle.ascii_lines.specs.Lines.{Stated, inputsAt, latchesAt, gatesAt}
+use Rattle.ascii_lines.proofs.Known.{inputs-length, states-length, nexts-length, resets-length, gates-length}
 use Rattle.ascii.specs.declared.TextRead.{TextRead}
 use Rattle.ascii.specs.Tag.{tag}
 use Rattle.ascii.specs.Text.{Text, Room, roomFor, textWith, sizedAt, listsAt, bodyAt, readText}
 use Rattle.ascii.specs.Promise.{Lists, roomOf, cleared, answered, Outcome, seen, left, outcome, StoresText, Roomy}
 use Rattle.ascii.proofs.Seven.{seven}
-use Rattle.ascii.proofs.Files.{inputs-length, latches-length, gates-length}
 
 -- right after the header: the first list that is too short
 
@@ -182,15 +182,14 @@ pub lists-announced : (s : List ℕ) (room : ℕ) (h : Header) (at : ℕ) (t : T
 lists-announced s room h at t end e =
     let p = sections s room h at t end e in
     let most = topCode h in
-    let n = latches-length s most (h .latches) (p .afterInputs) (p .afterLatches) (p .latches) (p .latches-read) in
     subst (Announced h) (p .made)
     (record {
       top = refl;
-      inputs = inputs-length s most (h .inputs) at (p .afterInputs) (p .inputs) (p .inputs-read);
-      states = length-map (p .latches) (λ l. l .state) ∙ n;
-      nexts = length-map (p .latches) (λ l. l .next) ∙ n;
-      resets = length-map (p .latches) (λ l. l .reset) ∙ n;
-      gates = gates-length s most (h .gates) (p .afterRoots) end (p .gates) (p .gates-read);
+      inputs = inputs-length s most (h .inputs) at (p .inputs) (p .afterInputs) (p .inputs-read);
+      states = states-length s most (h .latches) (p .afterInputs) (p .latches) (p .afterLatches) (p .latches-read);
+      nexts = nexts-length s most (h .latches) (p .afterInputs) (p .latches) (p .afterLatches) (p .latches-read);
+      resets = resets-length s most (h .latches) (p .afterInputs) (p .latches) (p .afterLatches) (p .latches-read);
+      gates = gates-length s most (h .gates) (p .afterRoots) (p .gates) end (p .gates-read);
       counts = refl;
       sets = roots-known s h most room (p .afterLatches) (p .roots) (p .afterRoots) (p .roots-read) .sets;
     })

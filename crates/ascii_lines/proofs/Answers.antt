@@ -1,18 +1,15 @@
 -- From an answer of the code back to what is read, and each return of the code of a line as a case of its definition. Assumes nothing.
-use Prim.Native.Nat.{ℕ, _+_, _%_, _≤_}
-use mathlib.Core.Path.{_≡_, refl, ap, _∙_}
+use Prim.Native.Nat.{ℕ, _+_, _%_}
+use mathlib.Core.Path.{_≡_, ap, _∙_}
 use mathlib.Core.Bool.{Bool, true, false, cond}
 use mathlib.Core.List.{List}
 use native.Mathlib.Omega.{arith}
-use lib.Dec.{leb, eqb}
-use lib.ListN.{length}
-use borrow.Author.Tests.{leb-true, eqb-false}
-use Rattle.token.specs.Answer.{uintAt, within, assigned, litAt}
+use lib.Dec.{eqb}
+use Rattle.token.specs.Answer.{uintAt, within, assigned, headerFieldAt, litAt}
 use Rattle.token.specs.declared.Reason.{Reason}
-use Rattle.token.specs.declared.Reason.the-variants.{OverLimit, AssignsZero, AssignsOdd}
+use Rattle.token.specs.declared.Reason.the-variants.{AssignsZero, AssignsOdd}
 use Rattle.token.specs.declared.Token.{Token}
 use Rattle.token.specs.declared.Token.the-variants.{Value, Refused}
-use Rattle.token.proofs.Theorems.{decimal-uses}
 use Rattle.circuit.specs.Graph.{Gate}
 use Rattle.lines.specs.declared.Fault.{Fault}
 use Rattle.lines.specs.declared.Fault.the-variants.{Number}
@@ -61,52 +58,20 @@ gate-no (no f p) why place e = let a : f ≡ why = cc in let b : p ≡ place = c
 
 -- a literal that a line defines
 
-pub record Assigned (s : List ℕ) (limit at v n : ℕ) : Type 0 where
-  pub within : v ≤ limit
-  pub large : 1 ≤ v
-  pub even : v % 2 ≡ 0
-  pub inside : at + n ≤ length s
-  pub digits : uintAt s at ≡ Value v n
-
-pub lit-assigned : (s : List ℕ) (limit at v n : ℕ) → litAt s at limit true ≡ Value v n → Assigned s limit at v n
-unfolding litAt
-lit-assigned s limit at v n e = go (uintAt s at) refl e
+-- it is a number that a count of the header may be too
+pub lit-counted : (s : List ℕ) (limit at v n : ℕ) → litAt s at limit true ≡ Value v n → headerFieldAt s at limit ≡ Value v n
+unfolding litAt headerFieldAt
+lit-counted s limit at v n e = go (uintAt s at) e
   where
-    go : (t : Token) → uintAt s at ≡ t → within limit at (assigned at t) ≡ Value v n → Assigned s limit at v n
-    go (Value w m) f g = by (eqb w 0) (eqb (w % 2) 1) (leb w limit) refl refl refl g
-      where
-        by : (x y z : Bool) → eqb w 0 ≡ x → eqb (w % 2) 1 ≡ y → leb w limit ≡ z
-            → within limit at (cond x (Refused AssignsZero at) (cond y (Refused AssignsOdd at) (Value w m))) ≡ Value v n → Assigned s limit at v n
-        by true y z p q r k = absurd (let u : _≡_ {A = ℕ} 0 1 = cc in omega arith)
-        by false true z p q r k = absurd (let u : _≡_ {A = ℕ} 0 1 = cc in omega arith)
-        by false false z p q r k = low z r k
-          where
-            low : (b : Bool) → leb w limit ≡ b → within limit at (Value w m) ≡ Value v n → Assigned s limit at v n
-            low true h k′ =
-                let same : Value w m ≡ Value v n = sym-cond h k′ in
-                let a : w ≡ v = cc in
-                let read : uintAt s at ≡ Value v n = f ∙ same in
-                let used = decimal-uses s at v n read in
-                record {
-                  within = omega (arith, leb-true w limit h);
-                  large = omega (arith, eqb-false w 0 p);
-                  even = omega (arith, eqb-false (w % 2) 1 q);
-                  inside = used .inside;
-                  digits = read;
-                }
-              where
-                sym-cond : leb w limit ≡ true → within limit at (Value w m) ≡ Value v n → Value w m ≡ Value v n
-                sym-cond h₁ k₁ = over (leb w limit) h₁ k₁
-                  where
-                    over : (b : Bool) → b ≡ true → cond b (Value w m) (Refused OverLimit at) ≡ Value v n → Value w m ≡ Value v n
-                    over true h₂ k₂ = k₂
-                    over false h₂ k₂ = absurd (let u : _≡_ {A = ℕ} 0 1 = cc in omega arith)
-            low false h k′ = absurd (over (leb w limit) h k′)
-              where
-                over : (b : Bool) → b ≡ false → cond b (Value w m) (Refused OverLimit at) ≡ Value v n → ⊥
-                over true h₂ k₂ = let u : _≡_ {A = ℕ} 0 1 = cc in omega arith
-                over false h₂ k₂ = let u : _≡_ {A = ℕ} 0 1 = cc in omega arith
-    go (Refused why place) f g = absurd (let u : _≡_ {A = ℕ} 0 1 = cc in omega arith)
+    by : (x m : ℕ) (zeroth odd : Bool) → within limit at (cond zeroth (Refused AssignsZero at) (cond odd (Refused AssignsOdd at) (Value x m))) ≡ Value v n
+        → within limit at (Value x m) ≡ Value v n
+    by x m true odd f = absurd (let z : _≡_ {A = ℕ} 0 1 = cc in omega arith)
+    by x m false true f = absurd (let z : _≡_ {A = ℕ} 0 1 = cc in omega arith)
+    by x m false false f = f
+
+    go : (t : Token) → within limit at (assigned at t) ≡ Value v n → within limit at t ≡ Value v n
+    go (Value x m) f = by x m (eqb x 0) (eqb (x % 2) 1) f
+    go (Refused why place) f = f
 
 pub defined-is : (s : List ℕ) (limit at v n : ℕ) → litAt s at limit true ≡ Value v n → Is v (at + n) ≡ reading (definedAt s limit at)
 unfolding definedAt

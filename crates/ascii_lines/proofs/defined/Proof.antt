@@ -5,7 +5,8 @@ use Rattle.ascii_lines.proofs.defined.Tie as tie
 use denote.Ref.{now}
 use mathlib.Core.Path.{sym, _∙_}
 use native.Mathlib.Omega.{arith}
-use Rattle.ascii_lines.proofs.Answers.{lit-assigned, defined-is, defined-not}
+use Rattle.lines.proofs.Answers.{number-held}
+use Rattle.ascii_lines.proofs.Answers.{lit-counted, defined-is, defined-not}
 
 lit-requires : tie.Need-lit-requires
 lit-requires c κs = search needs
@@ -20,7 +21,8 @@ cast-t11 c =
     let entry = litAt .before .before in
     omega (
       arith,
-      lit-assigned (now (entry .args .s)) (entry .args .limit) (entry .args .at) _ _ (sym (litAt .lit .ensures) ∙ tokenAt .token .given .1),
+      number-held (now (entry .args .s)) (entry .args .limit) (entry .args .at) _ _
+          (lit-counted _ _ _ _ _ (sym (litAt .lit .ensures) ∙ tokenAt .token .given .1)),
     )
 
 add-t12 : tie.Need-add-t12
@@ -30,7 +32,8 @@ add-t12 c =
     let entry = litAt .before .before in
     omega (
       arith,
-      lit-assigned (now (entry .args .s)) (entry .args .limit) (entry .args .at) _ _ (sym (litAt .lit .ensures) ∙ tokenAt .token .given .1),
+      number-held (now (entry .args .s)) (entry .args .limit) (entry .args .at) _ _
+          (lit-counted _ _ _ _ _ (sym (litAt .lit .ensures) ∙ tokenAt .token .given .1)),
     )
 
 enum-known-token-2 : tie.Need-enum-known-token-2
