@@ -1,3 +1,4 @@
 pub mod Seven
 pub mod Files
 pub mod Whole
+pub mod Chain

@@ -4,3 +4,4 @@ pub mod Promise
 pub mod Spelling
 pub mod Known
 pub mod Table
+pub mod Chain
