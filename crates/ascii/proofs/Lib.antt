@@ -1,4 +1,9 @@
 pub mod Seven
 pub mod Files
 pub mod Whole
+pub mod WriteParts
+pub mod WriteMost
+pub mod WriteFitting
+pub mod WritePins
+pub mod WriteTheorems
 pub mod Chain

@@ -4,4 +4,5 @@ pub mod Promise
 pub mod Spelling
 pub mod Known
 pub mod Table
+pub mod Write
 pub mod Chain

@@ -1,12 +1,20 @@
 // Reading a text AIGER file into lent lists, and writing one into lent bytes.
+mod put;
+
 ghost use mathlib.Core.Path.{_≡_};
+ghost use Prim.Native.Nat.{_+_, _*_, _≤_};
 ghost use lib.ListN.{length};
+ghost use Rattle.circuit.specs.Outcome.{limit};
 ghost use Rattle.lines.specs.Promise.{ended};
 ghost use Rattle.lines.specs.Limits.{Within};
 ghost use Rattle.lines.specs.Reading.{no};
+ghost use Rattle.ordered.specs.Given.{Given};
+ghost use Rattle.binary.specs.Write.{fileIn, wrote, writtenTo};
 ghost use Rattle.ascii.specs.Text.{roomFor, sizedAt, listsAt, bodyAt};
 ghost use Rattle.ascii.specs.Promise.{StoresText, Roomy, roomOf, seen, left, outcome};
+ghost use Rattle.ascii.specs.Write.{textOf, writing};
 use binary::FileAnswer;
+use binary::FileWritten;
 use lent::words::fill;
 use lent::words::wide;
 use lines::Ended;
@@ -14,6 +22,9 @@ use lines::Fault;
 use lines::FirstLine;
 use lines::Header;
 use lines::Reading;
+use lit::Lit;
+use ordered::given::Checked;
+use ordered::given::Shape;
 
 // The answer, and of a text that is taken M, the numbers of inputs, latches and gates, the five root counts in walk order, and the number of justice
 // sets; all 0 for a refusal.
@@ -364,5 +375,87 @@ pub fn read(
             sizes,
             roots,
         ),
+    }
+}
+
+// How many bytes the text of a circuit with so many variables, roots and justice sets has at most.
+fn most_bytes(variables: usize, roots: usize, sets: usize) -> usize
+    requires { ⌜ (variables ≤ limit) × (roots ≤ limit) × (sets ≤ limit) ⌝ }
+    ensures { λ r. ⌜ r ≡ 76 + 8 * (3 * variables + roots + sets) ⌝ }
+{
+    76 + 8 * (3 * variables + roots + sets)
+}
+
+// Writes a circuit that passed its checks, if the lent bytes suffice. It is measured first, but where more bytes are lent than any text of its size has.
+fn fitted(
+    o: Shape,
+    nexts: &[u32],
+    resets: &[u32],
+    gates: &[u32],
+    sizes: &[u32],
+    roots: &[u32],
+    out: &mut [u8],
+) -> FileWritten
+    requires { ⌜ Given (record {
+      inputs = o .inputs;
+      counts = o .counts;
+      nexts = now nexts;
+      resets = now resets;
+      gates = now gates;
+      sizes = now sizes;
+      roots = now roots;
+    }) ⌝ }
+    ensures { λ r. ⌜ wrote r (now (out .exit)) ≡ writtenTo (textOf (fileIn (record {
+      inputs = o .inputs;
+      counts = o .counts;
+      nexts = now (nexts .entry);
+      resets = now (resets .entry);
+      gates = now (gates .entry);
+      sizes = now (sizes .entry);
+      roots = now (roots .entry);
+    }))) (now (out .entry)) ⌝ }
+{
+    let h = put::header_for(o, nexts.len(), gates.len() / 2, sizes.len());
+    if most_bytes(wide(h.top), roots.len(), sizes.len()) <= out.len() {
+        let written = put::put_text(out, h, nexts, resets, gates, sizes, roots);
+        return FileWritten::Written(written);
+    }
+    let needed = put::put_text(&mut out[..0], h, nexts, resets, gates, sizes, roots);
+    if out.len() < needed {
+        return FileWritten::Unwritten {
+            why: ordered::given::Fault::Short,
+            needed,
+        };
+    }
+    put::put_text(out, h, nexts, resets, gates, sizes, roots);
+    FileWritten::Written(needed)
+}
+
+// Writes an ordered circuit as a text into the lent bytes, whose other bytes stay: V is computed, optional counts stop at the last that is not zero, a
+// latch line has a reset only where it is not 0, inputs, states and gate outputs are spelled out. What is no ordered circuit is refused, and then 3 where
+// the bytes are too few: nothing is written.
+pub fn write(
+    o: Shape,
+    nexts: &[u32],
+    resets: &[u32],
+    gates: &[u32],
+    sizes: &[u32],
+    roots: &[u32],
+    out: &mut [u8],
+) -> FileWritten
+    ensures { λ r. ⌜ wrote r (now (out .exit)) ≡ writing (record {
+      inputs = o .inputs;
+      counts = o .counts;
+      nexts = now (nexts .entry);
+      resets = now (resets .entry);
+      gates = now (gates .entry);
+      sizes = now (sizes .entry);
+      roots = now (roots .entry);
+    }) (now (out .entry)) ⌝ }
+{
+    let checked = ordered::given::check(o, nexts, resets, gates, sizes, roots, Lit::from_code(0));
+    match checked {
+        Checked::Fits => fitted(o, nexts, resets, gates, sizes, roots, out),
+        Checked::Faulty(why) => FileWritten::Unwritten { why, needed: 0 },
     }
 }

@@ -289,20 +289,19 @@ module _ (w : Words) (out bytes : List ℕ) where
           let answer : Unwritten why 0 ≡ Written n = ap (λ (x : Writing). x .answer) g in
           absurd (let z : _≡_ {A = ℕ} 0 1 = cc in omega arith)
 
-  -- a refusal leaves them as they were
-  pub refusals-keep : (why : Fault) (needed : ℕ) → writing w out ≡ wrote (Unwritten why needed) bytes → bytes ≡ out
-  unfolding writing
-  refusals-keep why needed e = go (checked w 0) e
-    where
-      to : (b : Bool)
-          → cond b (wrote (Unwritten Short (length (fileOf (fileIn w)))) out) (wrote (Written (length (fileOf (fileIn w)))) (onto (fileOf (fileIn w)) out))
-          ≡ wrote (Unwritten why needed) bytes
-          → bytes ≡ out
-      to true g = sym (ap (λ (x : Writing). x .bytes) g)
-      to false g =
-          let answer : Written (length (fileOf (fileIn w))) ≡ Unwritten why needed = ap (λ (x : Writing). x .answer) g in
-          absurd (let z : _≡_ {A = ℕ} 0 1 = cc in omega arith)
+-- a refusal leaves the lent bytes as they were, whatever file was to be written
+pub refused-keeps : (c : Checked) (file out bytes : List ℕ) (why : Fault) (needed : ℕ) → writtenAs c file out ≡ wrote (Unwritten why needed) bytes
+    → bytes ≡ out
+refused-keeps Fits file out bytes why needed e = go (ltb (length out) (length file)) e
+  where
+    go : (b : Bool) → cond b (wrote (Unwritten Short (length file)) out) (wrote (Written (length file)) (onto file out)) ≡ wrote (Unwritten why needed) bytes
+        → bytes ≡ out
+    go true g = sym (ap (λ (x : Writing). x .bytes) g)
+    go false g =
+        let answer : Written (length file) ≡ Unwritten why needed = ap (λ (x : Writing). x .answer) g in
+        absurd (let z : _≡_ {A = ℕ} 0 1 = cc in omega arith)
+refused-keeps (Faulty because) file out bytes why needed e = sym (ap (λ (x : Writing). x .bytes) e)
 
-      go : (c : Checked) → writtenAs c (fileOf (fileIn w)) out ≡ wrote (Unwritten why needed) bytes → bytes ≡ out
-      go Fits g = to (ltb (length out) (length (fileOf (fileIn w)))) g
-      go (Faulty because) g = sym (ap (λ (x : Writing). x .bytes) g)
+pub refusals-keep : (w : Words) (out bytes : List ℕ) (why : Fault) (needed : ℕ) → writing w out ≡ wrote (Unwritten why needed) bytes → bytes ≡ out
+unfolding writing
+refusals-keep w = refused-keeps (checked w 0) (fileOf (fileIn w))
