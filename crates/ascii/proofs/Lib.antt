@@ -4,6 +4,7 @@ pub mod Whole
 pub mod WriteParts
 pub mod WriteMost
 pub mod WriteFitting
+pub mod WriteSpelled
 pub mod WritePins
 pub mod WriteTheorems
 pub mod Chain

@@ -113,9 +113,8 @@ pub writing-pinned :
     × (writing smallWords (replicate 75 99) ≡ wrote (Unwritten Short 76) (replicate 75 99))
     × (writing (words 0 none [] [] [] [] []) (replicate 14 99) ≡ wrote (Written 14) empty)
     × (writing (words 0 none [] [] [] [] []) [] ≡ wrote (Unwritten Short 14) [])
-    -- 1; 2 for counts, for sizes, for a reset that is missing and for a word that is left over; 4; 22, by the latch's literal negated; 23, by the first input
-    -- and by the second; each where the bytes are too few as well, so that 3 is answered after them all
-    × (writing (words 1048576 none [] [] [] [] []) (7 ∷ 8 ∷ []) ≡ wrote (Unwritten TooBig 0) (7 ∷ 8 ∷ []))
+    -- 2 for counts, for sizes, for a reset that is missing and for a word that is left over; 4; 22, by the latch's literal negated; 23, by the first input and
+    -- by the second; each where the bytes are too few as well, so that 3 is answered after them all
     × (writing (words 0 none [] [] [] [] (0 ∷ [])) (7 ∷ 8 ∷ []) ≡ wrote (Unwritten Misshapen 0) (7 ∷ 8 ∷ []))
     × (writing (words 0 none [] [] [] (1 ∷ []) []) (7 ∷ 8 ∷ []) ≡ wrote (Unwritten Misshapen 0) (7 ∷ 8 ∷ []))
     × (writing (words 1 none (2 ∷ []) [] [] [] []) (7 ∷ 8 ∷ []) ≡ wrote (Unwritten Misshapen 0) (7 ∷ 8 ∷ []))
@@ -130,4 +129,9 @@ pub writing-pinned :
     × (writing (words 1 none [] [] (2 ∷ 3 ∷ []) [] []) (replicate 22 99) ≡ wrote (Unwritten (Disordered (literal 4)) 0) (replicate 22 99))
 unfolding digitsOf lineBytes countBytes resetBytes latchBytes afterTag rootsBytes firstCode inputLines statedBytes gateLine partsOf checked tooLarge uneven
     writing
-writing-pinned = (refl, refl, refl, refl, refl, refl, refl, refl, refl, refl, refl, refl, refl, refl, refl, refl)
+writing-pinned = (refl, refl, refl, refl, refl, refl, refl, refl, refl, refl, refl, refl, refl, refl, refl)
+
+-- 1, before 3 too
+pub too-big-pinned : writing (words 1048576 none [] [] [] [] []) (7 ∷ 8 ∷ []) ≡ wrote (Unwritten TooBig 0) (7 ∷ 8 ∷ [])
+unfolding checked tooLarge writing
+too-big-pinned = refl

@@ -5,4 +5,5 @@ pub mod Spelling
 pub mod Known
 pub mod Table
 pub mod Write
+pub mod Back
 pub mod Chain

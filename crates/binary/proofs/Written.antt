@@ -116,17 +116,17 @@ five-counts (o ∷ b ∷ c ∷ f ∷ j ∷ x ∷ l) e = absurd (omega arith)
 -- the whole file
 
 module _ (f : File) (k : Sound f) where
-  its-counts : f .ordered .counts ≡ countsOf (headerFor f) (f .sizes)
+  pub its-counts : f .ordered .counts ≡ countsOf (headerFor f) (f .sizes)
   its-counts =
       let cs : List ℕ = f .ordered .counts in
       five-counts cs (k .five) ∙ ap (λ (j : ℕ). getD cs 0 0 ∷ getD cs 1 0 ∷ getD cs 2 0 ∷ getD cs 3 0 ∷ j ∷ []) (sym (k .sizes))
 
-  its-roots : length (f .ordered .roots) ≡ rootCount (headerFor f) (total (f .sizes))
+  pub its-roots : length (f .ordered .roots) ≡ rootCount (headerFor f) (total (f .sizes))
   its-roots =
       let sum : total (f .ordered .counts) ≡ total (countsOf (headerFor f) (f .sizes)) = ap total its-counts in
       omega (arith, sum, k .wellOrdered .counts)
 
-  its-header : Within (headerFor f)
+  pub its-header : Within (headerFor f)
   its-header =
       record {
         top = k .wellOrdered .variables;
