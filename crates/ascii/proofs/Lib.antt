@@ -1,3 +1,5 @@
 pub mod Seven
 pub mod Files
 pub mod Whole
+pub mod Reading
+pub mod NeverShort
