@@ -41,6 +41,7 @@ use Rattle.ascii.specs.Text.{Text, Room, circuitIn, readText}
 use Rattle.ascii.specs.Promise.{Lists, roomOf, Outcome, left, outcome}
 use Rattle.ascii.specs.Known.{Known}
 use Rattle.ascii.specs.Chain.{Lending, handed, handedFrom, Enough, textGraph, KeepsText, Returns, Chain, refused, unordered, archived}
+use Rattle.ascii.proofs.Known.{read-known, known-passes}
 
 -- where all are within a bound, none is the first over it
 none-first : (bound : ℕ) (cs : List ℕ) (c : ℕ) → FirstOver bound cs c → AllWithin bound cs → ⊥
@@ -195,3 +196,35 @@ module _ (t : Text) (used : ℕ) (g : Lending) (known : Known (roomOf (g .text))
     returns out long =
         let back = kept out .readsBack long in
         record { bytes = back .bytes; file = resultWith l s (t .sizes); written = back .written; read = back .read; keeps = keeps; sizes = refl }
+
+pub text-to-file : (bytes : List ℕ) (g : Lending) (out : List ℕ) → Enough (outcome bytes (g .text) .read) g → Chain bytes g out
+text-to-file bytes g out enough = go (readText bytes (roomOf (g .text))) refl
+  where
+    go : (R : Read Text) → readText bytes (roomOf (g .text)) ≡ R → Chain bytes g out
+    go (no why place) e = refused why place (ap (λ (R : Read Text). left R (g .text)) e)
+    go (got t used) e = by (C.outcome (handed (left (got t used) (g .text)) g) .answer) refl
+      where
+        left-is : outcome bytes (g .text) ≡ left (got t used) (g .text)
+        left-is = ap (λ (R : Read Text). left R (g .text)) e
+
+        known : Known (roomOf (g .text)) t
+        known = read-known bytes (roomOf (g .text)) t used e
+
+        passes′ : Within (circuitIn t (g .trim) (g .hash) (g .fold)) × Bounded (circuitIn t (g .trim) (g .hash) (g .fold))
+        passes′ = let p = known-passes (roomOf (g .text)) t known (g .trim) (g .hash) (g .fold) in (p .0, p .1)
+
+        long : Enough (left (got t used) (g .text) .read) g
+        long = subst (λ (o : Outcome). Enough (o .read) g) left-is enough
+
+        by : (a : Answer) → C.outcome (handed (left (got t used) (g .text)) g) .answer ≡ a → Chain bytes g out
+        by (Refused r) f =
+            unordered t used e r (said t used g known (passes′ .0) (passes′ .1) long r f) (late t used g known (passes′ .0) (passes′ .1) long r f)
+            (ap (λ (o : Outcome). C.outcome (handed o g) .answer) left-is ∙ f)
+        by (Renumbered s) f =
+            archived t used e s (ap (λ (o : Outcome). C.outcome (handed o g) .answer) left-is ∙ f)
+            (subst⁻¹ (λ (o : Outcome). KeepsText t (held (handed o g) s (C.outcome (handed o g)))) left-is
+            (keeps t used g known (passes′ .0) (passes′ .1) long s f))
+            (subst⁻¹ (λ (o : Outcome). FitsOrShort (resultWith (handed o g) s (t .sizes)) (archiving (resultWith (handed o g) s (t .sizes)) out .answer)) left-is
+            (only-short t used g known (passes′ .0) (passes′ .1) long s f out))
+            (subst⁻¹ (λ (o : Outcome). length (fileOf (resultWith (handed o g) s (t .sizes))) ≤ length out → Returns t (resultWith (handed o g) s (t .sizes)) out (g .back))
+            left-is (returns t used g known (passes′ .0) (passes′ .1) long s f out))

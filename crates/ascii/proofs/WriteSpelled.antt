@@ -214,15 +214,17 @@ module _ (f : File) (k : Sound f) (room : Room) (fits : Holds room f) where
       let behind : List ℕ = rootsBytes h r ++ last in
       let middle : List ℕ = statedLines (firstLatch (O .inputs)) (O .nexts) (O .resets) ++ behind in
       let lists : List ℕ = inputLines (h .inputs) ++ middle in
-      let sized : Sized h room tt [] =
-      (record {
-        inputs-fit = fits .inputs;
-        states-fit = fits .states;
-        nexts-fit = fits .nexts;
-        resets-fit = fits .resets;
-        gates-fit = fits .gates;
-        sizes-fit = fits .sizes;
-      }, refl) in
+      let sized : Sized h room tt [] = (
+        record {
+          inputs-fit = fits .inputs;
+          states-fit = fits .states;
+          nexts-fit = fits .nexts;
+          resets-fit = fits .resets;
+          gates-fit = fits .gates;
+          sizes-fit = fits .sizes;
+        },
+        refl,
+      ) in
       let known : List Gate → Text = λ gs. textWith h (countFrom 2 (O .inputs)) lines r gs in
       let listed : Listed room h (textFor f) lists =
       in-a-row (countFrom 2 (O .inputs)) (inputLines (h .inputs)) middle inputs
