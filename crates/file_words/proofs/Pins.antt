@@ -14,7 +14,7 @@ use Rattle.binary.specs.File.{gateAt, gatesAt, sizedAt, listsAt, bodyAt, readFi
 use Rattle.binary.specs.Promise.{Lists}
 use Rattle.binary.specs.declared.FileAnswer.the-variants.{Taken}
 use Rattle.binary.specs.declared.FileRead.{FileRead}
-use Rattle.file_words.specs.Read.{Seen, answerWords, readSeen}
+use Rattle.file_words.specs.Read.{Seen, topOf, answerWords, readSeen}
 
 -- next states, resets, gates, sizes, roots
 abbrev lists : List ℕ → List ℕ → List ℕ → List ℕ → List ℕ → Lists
@@ -61,9 +61,9 @@ untouched number left = sees number (dirty .nexts) (dirty .resets) (dirty .gates
 abbrev numbers : FileRead
 numbers = record { answer = Taken 99; inputs = 2; latches = 30; gates = 400; counts = 5 ∷ 6 ∷ 7 ∷ 8 ∷ 9 ∷ []; sets = 10 }
 
--- which word is which; M is the sum of three
-pub words-pinned : answerWords numbers ≡ 99 ∷ 432 ∷ 2 ∷ 30 ∷ 400 ∷ 5 ∷ 6 ∷ 7 ∷ 8 ∷ 9 ∷ 10 ∷ []
-words-pinned = refl
+-- which word is which; M of a binary file is the sum of three
+pub words-pinned : (answerWords 700 numbers ≡ 99 ∷ 700 ∷ 2 ∷ 30 ∷ 400 ∷ 5 ∷ 6 ∷ 7 ∷ 8 ∷ 9 ∷ 10 ∷ []) × (topOf numbers ≡ 432)
+words-pinned = (refl, refl)
 
 -- a file that is taken: all is there, its reset too, fairness before justice, and 46 bytes are used
 pub taken-pinned :

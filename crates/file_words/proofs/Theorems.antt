@@ -34,7 +34,7 @@ use Rattle.ordered.specs.Given as ordered
 use Rattle.ordered.proofs.Theorems.{exactly, fits-exactly}
 use Rattle.file_words.specs.Read.{Seen, fileNumber, readSeen}
 use Rattle.file_words.specs.Write as write
-use Rattle.file_words.specs.Write.{writtenNumber, asSeen, writeSeen}
+use Rattle.file_words.specs.Write.{writtenNumber, asSeen, seenBy, writeSeen}
 use Rattle.binary.proofs.Most as most
 use Rattle.file_words.proofs.Refusals.{Only, Has, only-read}
 use Rattle.file_words.proofs.read.Kinds as read-kinds
@@ -143,7 +143,7 @@ file-most = most.file-most
 -- where as many bytes are lent as the file has, and two answer words, 3 is not answered
 not-short : (w : Words) (out words : List ℕ) → 2 ≤ length words → (ordered.Given w → length (fileOf (fileIn w)) ≤ length out)
     → writeSeen w out words .number ≢ 3
-unfolding writeSeen writing
+unfolding seenBy writing
 not-short w out words room fits = rw (le-ltb (length words) 2 room) (five (eqb (length (w .counts)) 5))
   where
     go : (c : Checked) → checked w 0 ≡ c → writtenNumber (writtenAs c (fileOf (fileIn w)) out .answer) ≢ 3

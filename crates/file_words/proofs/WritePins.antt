@@ -12,7 +12,7 @@ use Rattle.ordered.specs.declared.given.Fault.the-variants.{TooBig, Misshapen, 
 use Rattle.ordered.specs.Check.{Words, tooLarge, uneven, checked}
 use Rattle.binary.specs.declared.FileWritten.the-variants.{Written, Unwritten}
 use Rattle.binary.specs.Write.{partsOf, writing}
-use Rattle.file_words.specs.Write.{Seen, writtenNumber, writtenWords, writeSeen}
+use Rattle.file_words.specs.Write.{Seen, writtenNumber, writtenWords, seenBy, writeSeen}
 
 -- inputs, counts, next states, resets, gates, sizes, roots
 abbrev givenWith : ℕ → List ℕ → List ℕ → List ℕ → List ℕ → List ℕ → List ℕ → Words
@@ -87,7 +87,7 @@ pub written-pinned :
     -- aig 101 100 0 0 1, and the gate 202(10,10): a delta of two bytes, and one of zero
     × (writeSeen (given 100 (replicate 5 0) [] (10 ∷ 10 ∷ []) [] []) (replicate 22 7) three
     ≡ sees 0 (97 ∷ 105 ∷ 103 ∷ 32 ∷ 49 ∷ 48 ∷ 49 ∷ 32 ∷ 49 ∷ 48 ∷ 48 ∷ 32 ∷ 48 ∷ 32 ∷ 48 ∷ 32 ∷ 49 ∷ 10 ∷ 192 ∷ 1 ∷ 0 ∷ 7 ∷ []) (0 ∷ 21 ∷ 53 ∷ []))
-unfolding writeSeen writing checked tooLarge uneven firstCode partsOf afterTag countBytes resetBytes latchBytes lineBytes rootsBytes digitsOf shortest
+unfolding seenBy writing checked tooLarge uneven firstCode partsOf afterTag countBytes resetBytes latchBytes lineBytes rootsBytes digitsOf shortest
 written-pinned = (refl, refl, refl, refl, refl)
 
 -- each refusal, alone and with those that come after it
@@ -129,7 +129,7 @@ pub write-refusals-pinned :
     -- 3: a byte too few, and none at all; the bytes needed are told
     × (writeSeen small (replicate 43 7) three ≡ refused 43 3 0 44)
     × (writeSeen small [] three ≡ refused 0 3 0 44)
-unfolding writeSeen writing checked tooLarge uneven firstCode partsOf afterTag countBytes resetBytes latchBytes lineBytes rootsBytes digitsOf shortest
+unfolding seenBy writing checked tooLarge uneven firstCode partsOf afterTag countBytes resetBytes latchBytes lineBytes rootsBytes digitsOf shortest
 write-refusals-pinned = (
   refl,
   refl,
