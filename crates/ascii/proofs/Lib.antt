@@ -1,7 +1,9 @@
+pub mod Table
 pub mod Seven
 pub mod Files
 pub mod Whole
 pub mod Reading
 pub mod Known
 pub mod NeverShort
+pub mod Pins
 pub mod Theorems
