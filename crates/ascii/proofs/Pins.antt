@@ -152,8 +152,8 @@ pub parts-pinned :
     × (circuitIn smallText false true false .trim ≡ false)
     × (circuitIn smallText false true false .hash ≡ true)
     × (circuitIn smallText false true false .fold ≡ false)
-unfolding digitsOf digitsAt uintAt headerFieldAt litAt isByte byteAt tagAt numberAt lineAt linesAt resetLineAt resetAt latchAt countAt othersAt countsAt headerAt
-    rootRoomAt propertiesAt sizesAt rootsAt definedAt inputAt inputsAt statedAt latchesAt inputPairAt gateAt gatesAt sizedAt listsAt bodyAt readText
+unfolding digitsOf digitsAt uintAt headerFieldAt litAt isByte byteAt tagAt numberAt lineAt linesAt resetLineAt resetAt latchAt countAt othersAt countsAt
+    headerAt rootRoomAt propertiesAt sizesAt rootsAt definedAt inputAt inputsAt statedAt latchesAt inputPairAt gateAt gatesAt sizedAt listsAt bodyAt readText
 parts-pinned = (refl, refl, refl, refl, refl, refl, refl, refl, refl, refl, refl, refl, refl)
 
 -- 3. What a text is read as.
@@ -222,8 +222,8 @@ pub texts-pinned :
     ≡ no Short 24)
     -- aag 0 0 0 10 0\n
     × (readText (97 ∷ 97 ∷ 103 ∷ 32 ∷ 48 ∷ 32 ∷ 48 ∷ 32 ∷ 48 ∷ 32 ∷ 49 ∷ 48 ∷ 32 ∷ 48 ∷ 10 ∷ []) wide ≡ no (Number NoDigit) 15)
-unfolding digitsOf digitsAt uintAt headerFieldAt litAt isByte byteAt tagAt numberAt lineAt linesAt resetLineAt resetAt latchAt countAt othersAt countsAt headerAt
-    rootRoomAt propertiesAt sizesAt rootsAt definedAt inputAt inputsAt statedAt latchesAt inputPairAt gateAt gatesAt sizedAt listsAt bodyAt readText
+unfolding digitsOf digitsAt uintAt headerFieldAt litAt isByte byteAt tagAt numberAt lineAt linesAt resetLineAt resetAt latchAt countAt othersAt countsAt
+    headerAt rootRoomAt propertiesAt sizesAt rootsAt definedAt inputAt inputsAt statedAt latchesAt inputPairAt gateAt gatesAt sizedAt listsAt bodyAt readText
 texts-pinned = (refl, refl, refl, refl, refl, refl, refl, refl, refl, refl, refl, refl, refl, refl, refl, refl, refl)
 
 -- 4. What is left of a reading.
@@ -295,7 +295,8 @@ pub outcomes-pinned :
     × (outcome small (lists (dirty .inputs) (dirty .states) (dirty .nexts) [] (dirty .gates) (dirty .sizes) (dirty .roots))
     ≡ refused Short 22 (lists (clean .inputs) (clean .states) (clean .nexts) [] (clean .gates) (clean .sizes) (clean .roots)))
     × (outcome small (lists (dirty .inputs) (dirty .states) (dirty .nexts) (dirty .resets) (1 ∷ 2 ∷ 3 ∷ 4 ∷ 5 ∷ 6 ∷ 7 ∷ 8 ∷ []) (dirty .sizes) (dirty .roots))
-    ≡ refused Short 22 (lists (clean .inputs) (clean .states) (clean .nexts) (clean .resets) (0 ∷ 0 ∷ 0 ∷ 0 ∷ 0 ∷ 0 ∷ 0 ∷ 0 ∷ []) (clean .sizes) (clean .roots)))
+    ≡ refused Short 22
+    (lists (clean .inputs) (clean .states) (clean .nexts) (clean .resets) (0 ∷ 0 ∷ 0 ∷ 0 ∷ 0 ∷ 0 ∷ 0 ∷ 0 ∷ []) (clean .sizes) (clean .roots)))
     × (outcome small (lists (dirty .inputs) (dirty .states) (dirty .nexts) (dirty .resets) (dirty .gates) (1 ∷ []) (dirty .roots))
     ≡ refused Short 22 (lists (clean .inputs) (clean .states) (clean .nexts) (clean .resets) (clean .gates) (0 ∷ []) (clean .roots)))
     × (outcome small (lists (dirty .inputs) (dirty .states) (dirty .nexts) (dirty .resets) (dirty .gates) (dirty .sizes) (1 ∷ 2 ∷ 3 ∷ 4 ∷ 5 ∷ 6 ∷ 7 ∷ []))
@@ -352,7 +353,9 @@ pub outcomes-pinned :
     -- aag 3 1 0 1 2\n2\n6\n6 4 2\n4 2 3\n
     × (outcome (97 ∷ 97 ∷ 103 ∷ 32 ∷ 51 ∷ 32 ∷ 49 ∷ 32 ∷ 48 ∷ 32 ∷ 49 ∷ 32 ∷ 50 ∷ 10 ∷ 50 ∷ 10 ∷ 54 ∷ 10 ∷ 54 ∷ 32 ∷ 52 ∷ 32 ∷ 50 ∷ 10 ∷ 52 ∷ 32 ∷ 50 ∷ 32 ∷
     51 ∷ 10 ∷ []) dirty
-    ≡ leaves (Taken 30) 3 1 0 2 (1 ∷ 0 ∷ 0 ∷ 0 ∷ 0 ∷ []) 0 (lists (2 ∷ 62 ∷ 63 ∷ []) (dirty .states) (dirty .nexts) (dirty .resets) (6 ∷ 4 ∷ 2 ∷ 4 ∷ 2 ∷ 3 ∷ 87 ∷ 88 ∷ 89 ∷ 90 ∷ []) (dirty .sizes) (6 ∷ 42 ∷ 43 ∷ 44 ∷ 45 ∷ 46 ∷ 47 ∷ 48 ∷ 49 ∷ 50 ∷ [])))
+    ≡ leaves (Taken 30) 3 1 0 2 (1 ∷ 0 ∷ 0 ∷ 0 ∷ 0 ∷ []) 0
+    (lists (2 ∷ 62 ∷ 63 ∷ []) (dirty .states) (dirty .nexts) (dirty .resets) (6 ∷ 4 ∷ 2 ∷ 4 ∷ 2 ∷ 3 ∷ 87 ∷ 88 ∷ 89 ∷ 90 ∷ []) (dirty .sizes)
+    (6 ∷ 42 ∷ 43 ∷ 44 ∷ 45 ∷ 46 ∷ 47 ∷ 48 ∷ 49 ∷ 50 ∷ [])))
     -- aag 3 1 0 1 2\n2\n6\n6 4 2\n5 2 3\n
     × (outcome (97 ∷ 97 ∷ 103 ∷ 32 ∷ 51 ∷ 32 ∷ 49 ∷ 32 ∷ 48 ∷ 32 ∷ 49 ∷ 32 ∷ 50 ∷ 10 ∷ 50 ∷ 10 ∷ 54 ∷ 10 ∷ 54 ∷ 32 ∷ 52 ∷ 32 ∷ 50 ∷ 10 ∷ 53 ∷ 32 ∷ 50 ∷ 32 ∷
     51 ∷ 10 ∷ []) dirty
@@ -374,8 +377,8 @@ pub outcomes-pinned :
     × (outcome (97 ∷ 97 ∷ 103 ∷ 32 ∷ 51 ∷ 32 ∷ 49 ∷ 32 ∷ 48 ∷ 32 ∷ 49 ∷ 32 ∷ 50 ∷ 10 ∷ 50 ∷ 10 ∷ 56 ∷ 10 ∷ 54 ∷ 32 ∷ 52 ∷ 32 ∷ 50 ∷ 10 ∷ 52 ∷ 32 ∷ 50 ∷ 32 ∷
     51 ∷ 10 ∷ []) dirty
     ≡ refused (Number OverLimit) 16 clean)
-unfolding digitsOf digitsAt uintAt headerFieldAt litAt isByte byteAt tagAt numberAt lineAt linesAt resetLineAt resetAt latchAt countAt othersAt countsAt headerAt
-    rootRoomAt propertiesAt sizesAt rootsAt definedAt inputAt inputsAt statedAt latchesAt inputPairAt gateAt gatesAt sizedAt listsAt bodyAt readText
+unfolding digitsOf digitsAt uintAt headerFieldAt litAt isByte byteAt tagAt numberAt lineAt linesAt resetLineAt resetAt latchAt countAt othersAt countsAt
+    headerAt rootRoomAt propertiesAt sizesAt rootsAt definedAt inputAt inputsAt statedAt latchesAt inputPairAt gateAt gatesAt sizedAt listsAt bodyAt readText
 outcomes-pinned = (
   refl,
   refl,

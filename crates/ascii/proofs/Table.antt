@@ -167,8 +167,8 @@ pub table :
     × (told (readText (97 ∷ 97 ∷ 103 ∷ 32 ∷ 55 ∷ 32 ∷ 50 ∷ 32 ∷ 49 ∷ 32 ∷ 50 ∷ 32 ∷ 52 ∷ 10 ∷ 50 ∷ 10 ∷ 52 ∷ 10 ∷ 54 ∷ 32 ∷ 56 ∷ 10 ∷ 54 ∷ 10 ∷ 55 ∷ 10 ∷
     56 ∷ 32 ∷ 52 ∷ 32 ∷ 49 ∷ 48 ∷ 10 ∷ 49 ∷ 48 ∷ 32 ∷ 49 ∷ 51 ∷ 32 ∷ 49 ∷ 53 ∷ 10 ∷ 49 ∷ 50 ∷ 32 ∷ 50 ∷ 32 ∷ 54 ∷ 10 ∷ 49 ∷ 52 ∷ 32 ∷ 51 ∷ 32 ∷ 55 ∷ 10 ∷
     []) roomy) ≡ answer 0 56)
-unfolding digitsOf digitsAt uintAt headerFieldAt litAt isByte byteAt tagAt numberAt lineAt linesAt resetLineAt resetAt latchAt countAt othersAt countsAt headerAt
-    rootRoomAt propertiesAt sizesAt rootsAt definedAt inputAt inputsAt statedAt latchesAt inputPairAt gateAt gatesAt sizedAt listsAt bodyAt readText
+unfolding digitsOf digitsAt uintAt headerFieldAt litAt isByte byteAt tagAt numberAt lineAt linesAt resetLineAt resetAt latchAt countAt othersAt countsAt
+    headerAt rootRoomAt propertiesAt sizesAt rootsAt definedAt inputAt inputsAt statedAt latchesAt inputPairAt gateAt gatesAt sizedAt listsAt bodyAt readText
 table = (
   refl,
   refl,
