@@ -1,3 +1,4 @@
+pub mod Table
 pub mod Seven
 pub mod Files
 pub mod Whole
@@ -11,4 +12,5 @@ pub mod WriteSpelled
 pub mod WritePins
 pub mod Written
 pub mod Chain
+pub mod Pins
 pub mod Theorems

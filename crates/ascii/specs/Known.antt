@@ -1,10 +1,9 @@
 -- What holds of every text that is read; and lists that no text is too large for. Assumes nothing.
 use Prim.Native.Nat.{ℕ, _+_, _*_, _%_, _≤_}
 use mathlib.Core.Path.{_≡_}
-use mathlib.Core.List.{List, [], _∷_, map, _++_}
+use mathlib.Core.List.{List, map, _++_}
 use lib.ListN.{length, getD}
 use Rattle.circuit.specs.Graph.{In}
-use Rattle.circuit.specs.Circuit.{gateOutputs, codes}
 use Rattle.circuit.specs.Outcome.{limit, total}
 use Rattle.circuit.specs.Claims.{AllWithin, AllReset}
 use Rattle.ascii.specs.Text.{Text, Room}

@@ -1,5 +1,4 @@
 -- How the cases of reading are written down: the number of the refusal, 0 where the text is taken, and the place. Assumes nothing.
-use Prim.Native.Nat.{ℕ}
 use Rattle.lines.specs.Numbers.{faultNumber}
 use Rattle.lines.specs.Reading.{Read, got, no}
 use Rattle.binary.specs.Table.{Told, answer}

@@ -1,7 +1,7 @@
 -- The theorems of the text form's lines: any two outcomes that a contract of this crate allows for the same arguments are equal, the answer and each lent
 -- word. What is read is told in Spelled.antt and Known.antt, and the examples stand in Pins.antt. Assumes nothing.
 use Prim.Native.Nat.{ℕ}
-use mathlib.Core.Path.{_≡_, sym, ap, _∙_}
+use mathlib.Core.Path.{sym, ap, _∙_}
 use mathlib.Core.List.{List}
 use denote.Ref.{now}
 use Rattle.promise.specs.Determined.{DeterminesCells}

@@ -4,8 +4,8 @@ use mathlib.Core.Bool.{true}
 use mathlib.Core.List.{List, map}
 use Rattle.token.specs.Answer.{litAt}
 use Rattle.circuit.specs.Graph.{Gate}
-use Rattle.lines.specs.Reading.{Read, got, no, _▸_, rowAt}
-use Rattle.lines.specs.Lines.{spaceAt, newlineAt, numberOf, LatchLine, latchAt}
+use Rattle.lines.specs.Reading.{Read, got, _▸_, rowAt}
+use Rattle.lines.specs.Lines.{spaceAt, newlineAt, numberOf, latchAt}
 use Rattle.lines.specs.Sections.{countAt}
 
 -- a literal that a line defines: a number, not 0 (13), not odd (14), and then within the limit (12)
