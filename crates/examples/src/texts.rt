@@ -7,6 +7,7 @@ use crate::fields;
 use crate::files;
 use crate::records;
 use crate::say;
+use crate::writings;
 use bytes::scan::find;
 
 pub fn answer(line: &[u8]) {
@@ -97,12 +98,13 @@ fn just(kind: u8, file: &[u8]) {
 fn lent(kind: u8, letter: u8, list: &[u32]) -> usize
     ensures { λ r. ⌜ Counts r (now (list .entry)) ⌝ }
 {
-    if kind == letter {
-        if 0 < list.len() {
-            return list.len() - 1;
-        }
-    }
-    list.len()
+    let fewer = if kind == letter { 1 } else { 0 };
+    writings::front(less(list.len(), fewer), list)
+}
+
+// One number less another; 0 where that is larger.
+fn less(n: usize, by: usize) -> usize {
+    if by < n { n - by } else { 0 }
 }
 
 fn longer(file: &[u8]) {
@@ -162,6 +164,32 @@ fn whole(
     roots: &mut [u32],
     words: &mut [u64],
 ) {
+    read(
+        file,
+        inputs,
+        states,
+        nexts,
+        resets,
+        gates,
+        sizes,
+        roots,
+        words,
+    );
+    cells(inputs, states, nexts, resets, gates, sizes, roots);
+}
+
+// Reads the text, and prints the answer.
+fn read(
+    file: &[u8],
+    inputs: &mut [u32],
+    states: &mut [u32],
+    nexts: &mut [u32],
+    resets: &mut [u32],
+    gates: &mut [u32],
+    sizes: &mut [u32],
+    roots: &mut [u32],
+    words: &mut [u64],
+) {
     let number = file_words::read_text(
         file,
         inputs,
@@ -174,6 +202,18 @@ fn whole(
         words,
     );
     files::said(number, words);
+}
+
+// Every word of each list.
+fn cells(
+    inputs: &[u32],
+    states: &[u32],
+    nexts: &[u32],
+    resets: &[u32],
+    gates: &[u32],
+    sizes: &[u32],
+    roots: &[u32],
+) {
     records::cells(b"; inputs", inputs);
     records::cells(b"; states", states);
     records::cells(b"; nexts", nexts);

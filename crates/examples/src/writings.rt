@@ -255,7 +255,7 @@ fn count(words: &[u64], at: usize) -> u32
 }
 
 // The number, or the list's length where that is smaller. The two functions after it are the same for bytes and for the answer's words.
-fn front(n: usize, list: &[u32]) -> usize
+pub fn front(n: usize, list: &[u32]) -> usize
     ensures { λ r. ⌜ Counts r (now (list .entry)) ⌝ }
 {
     if n < list.len() { n } else { list.len() }
