@@ -3,4 +3,7 @@ pub mod Writing
 pub mod Pins
 pub mod WritePins
 pub mod Refusals
+pub mod FileRefusals
+pub mod TextRefusals
 pub mod Theorems
+pub mod TextTheorems
