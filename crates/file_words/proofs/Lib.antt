@@ -2,6 +2,8 @@ pub mod Words
 pub mod Writing
 pub mod Pins
 pub mod WritePins
+pub mod TextPins
+pub mod TextWritePins
 pub mod Refusals
 pub mod FileRefusals
 pub mod TextRefusals

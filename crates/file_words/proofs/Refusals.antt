@@ -22,7 +22,8 @@ use Rattle.lines.specs.declared.Fault.the-variants.{Number, Missing, TooMany, S
 use Rattle.lines.specs.declared.Header.{Header}
 use Rattle.lines.specs.Reading.{Read, got, no, _▸_, rowAt}
 use Rattle.lines.specs.Lines.{isByte, byteAt, spaceAt, newlineAt, begins, tagAt, numberOf, numberAt, lineAt, linesAt, latchLine, resetLineAt, resetAt, latchAt}
-use Rattle.lines.specs.Sections.{countAt, optionsAt, headerOf, othersAt, countsAt, headerAt, firstRoots, rootCount, rootRoomAt, propertiesAt, sizesAt, rootsOf, rootsAt}
+use Rattle.lines.specs.Sections.{countAt, optionsAt, headerOf, othersAt, countsAt, headerAt}
+use Rattle.lines.specs.Sections.{firstRoots, rootCount, rootRoomAt, propertiesAt, sizesAt, rootsOf, rootsAt}
 use Rattle.lines.proofs.Answers.{number-held}
 
 -- a reading ends within the bytes s, and is refused, if at all, for a reason that P has

@@ -13,7 +13,8 @@ use borrow.Author.Tests.{le-ltb}
 use denote.Ref.{now}
 use Rattle.promise.specs.Determined.{DeterminesCells}
 use Rattle.lines.specs.Numbers.{faultNumber}
-use Rattle.token.specs.declared.Reason.the-variants.{NoDigit, LeadingZero, OverWidth, OverLimit, AssignsZero, AssignsOdd, Cut, TooLong, OverReference, ZeroDelta}
+use Rattle.token.specs.declared.Reason.the-variants.{NoDigit, LeadingZero, OverWidth, OverLimit, AssignsZero, AssignsOdd}
+use Rattle.token.specs.declared.Reason.the-variants.{Cut, TooLong, OverReference, ZeroDelta}
 use Rattle.lines.specs.declared.Fault.{Fault}
 use Rattle.lines.specs.declared.Fault.the-variants.{Number, Missing, Above, TooMany, Short, Reset}
 use Rattle.lines.specs.Reading.{Read, got, no}
