@@ -19,7 +19,8 @@ returns c =
     let isShortAt = c .before in
     let entry = isShortAt .before .before .before .before .before .before .before .before .before in
     let a = entry .args in
-    way-short (now (a .bytes)) (listsOf (now (a .nexts)) (now (a .resets)) (now (a .gates)) (now (a .sizes)) (now (a .roots))) (now (a .answer)) (sym (isShortAt .is-short .ensures) ∙ c .if1 .taken)
+    let lent = listsOf (now (a .nexts)) (now (a .resets)) (now (a .gates)) (now (a .sizes)) (now (a .roots)) in
+    way-short (now (a .bytes)) lent (now (a .answer)) (sym (isShortAt .is-short .ensures) ∙ c .if1 .taken)
 
 read-requires : tie.Need-read-requires
 read-requires c κs = search needs
@@ -29,7 +30,8 @@ top-of-requires c κs = search needs
 
 put-words-requires : tie.Need-put-words-requires
 put-words-requires c κs =
-    let if1At = c .before .before .before .before .before .before .before .before .before .before .before .before .before .before .before .before .before .before in
+    let readAt = c .before .before .before .before .before .before .before .before .before .before .before .before in
+    let if1At = readAt .before .before .before .before .before .before in
     ltb-false _ 11 (sym (if1At .before .is-short .ensures) ∙ if1At .if1 .left)
 
 number-requires : tie.Need-number-requires
@@ -62,14 +64,15 @@ returns-2 c =
     let isShortAt = if1At .before in
     let entry = isShortAt .before .before .before .before .before .before .before .before .before in
     let a = entry .args in
+    let lent = listsOf (now (a .nexts)) (now (a .resets)) (now (a .gates)) (now (a .sizes)) (now (a .roots)) in
     let said = readAt .read in
     let nextsLeft = said .last .1 .0 in
     let resetsLeft = said .last .1 .1 .0 in
     let gatesLeft = said .last .1 .1 .1 .0 in
     let sizesLeft = said .last .1 .1 .1 .1 .0 in
     let rootsLeft = said .last .1 .1 .1 .1 .1 .0 in
-    way-read (now (a .bytes)) (listsOf (now (a .nexts)) (now (a .resets)) (now (a .gates)) (now (a .sizes)) (now (a .roots))) (now (a .answer))
-    (sym (isShortAt .is-short .ensures) ∙ if1At .if1 .left) (seen (said .result) (listsOf nextsLeft resetsLeft gatesLeft sizesLeft rootsLeft)) _ _ _
+    let left = listsOf nextsLeft resetsLeft gatesLeft sizesLeft rootsLeft in
+    way-read (now (a .bytes)) lent (now (a .answer)) (sym (isShortAt .is-short .ensures) ∙ if1At .if1 .left) (seen (said .result) left) _ _ _
     (said .ensures) (c .number .ensures) (topOfAt .top-of .ensures) (putWordsAt .put-words .ensures)
 
 pub read-spec : {M : Type 1} → statement M

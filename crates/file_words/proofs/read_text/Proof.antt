@@ -19,7 +19,8 @@ returns c =
     let isShortAt = c .before in
     let entry = isShortAt .before .before .before .before .before .before .before .before .before .before .before in
     let a = entry .args in
-    text-short (now (a .bytes)) (listsOf (now (a .inputs)) (now (a .states)) (now (a .nexts)) (now (a .resets)) (now (a .gates)) (now (a .sizes)) (now (a .roots))) (now (a .answer)) (sym (isShortAt .is-short .ensures) ∙ c .if1 .taken)
+    let lent = listsOf (now (a .inputs)) (now (a .states)) (now (a .nexts)) (now (a .resets)) (now (a .gates)) (now (a .sizes)) (now (a .roots)) in
+    text-short (now (a .bytes)) lent (now (a .answer)) (sym (isShortAt .is-short .ensures) ∙ c .if1 .taken)
 
 read-requires : tie.Need-read-requires
 read-requires c κs = search needs
@@ -32,7 +33,8 @@ word-requires c κs = search needs
 
 put-words-requires : tie.Need-put-words-requires
 put-words-requires c κs =
-    let if1At = c .before .before .before .before .before .before .before .before .before .before .before .before .before .before .before .before .before .before .before .before .before .before .before .before .before in
+    let readAt = c .before .before .before .before .before .before .before .before .before .before .before .before .before .before .before .before .before in
+    let if1At = readAt .before .before .before .before .before .before .before .before in
     ltb-false _ 11 (sym (if1At .before .is-short .ensures) ∙ if1At .if1 .left)
 
 number-requires : tie.Need-number-requires
@@ -72,6 +74,7 @@ returns-2 c =
     let isShortAt = if1At .before in
     let entry = isShortAt .before .before .before .before .before .before .before .before .before .before .before in
     let a = entry .args in
+    let lent = listsOf (now (a .inputs)) (now (a .states)) (now (a .nexts)) (now (a .resets)) (now (a .gates)) (now (a .sizes)) (now (a .roots)) in
     let said = readAt .read in
     let inputsLeft = said .last .1 .0 in
     let statesLeft = said .last .1 .1 .0 in
@@ -80,8 +83,8 @@ returns-2 c =
     let gatesLeft = said .last .1 .1 .1 .1 .1 .0 in
     let sizesLeft = said .last .1 .1 .1 .1 .1 .1 .0 in
     let rootsLeft = said .last .1 .1 .1 .1 .1 .1 .1 .0 in
-    text-read (now (a .bytes)) (listsOf (now (a .inputs)) (now (a .states)) (now (a .nexts)) (now (a .resets)) (now (a .gates)) (now (a .sizes)) (now (a .roots))) (now (a .answer))
-    (sym (isShortAt .is-short .ensures) ∙ if1At .if1 .left) (seen (said .result) (listsOf inputsLeft statesLeft nextsLeft resetsLeft gatesLeft sizesLeft rootsLeft)) _ _ _ _
+    let left = listsOf inputsLeft statesLeft nextsLeft resetsLeft gatesLeft sizesLeft rootsLeft in
+    text-read (now (a .bytes)) lent (now (a .answer)) (sym (isShortAt .is-short .ensures) ∙ if1At .if1 .left) (seen (said .result) left) _ _ _ _
     (said .ensures) (c .number .ensures) (wordAt .word .ensures .same) (fileReadAt .file-read .ensures) (putWordsAt .put-words .ensures)
 
 pub read-text-spec : {M : Type 1} → statement M

@@ -20,8 +20,8 @@ returns c =
     let refusedFirstAt = c .before .before .before in
     let entry = refusedFirstAt .before .before .before .before .before .before .before .before .before .before in
     let a = entry .args in
-    way-first writing (given (a .inputs) (now (a .counts)) (now (a .nexts)) (now (a .resets)) (now (a .gates)) (now (a .sizes)) (now (a .roots))) (now (a .out)) (now (a .answer)) _ _
-    (refusedFirstAt .refused-first .ensures) (c .if1 .taken)
+    let lent = given (a .inputs) (now (a .counts)) (now (a .nexts)) (now (a .resets)) (now (a .gates)) (now (a .sizes)) (now (a .roots)) in
+    way-first writing lent (now (a .out)) (now (a .answer)) _ _ (refusedFirstAt .refused-first .ensures) (c .if1 .taken)
 
 shape-of-requires : tie.Need-shape-of-requires
 shape-of-requires c κs =
@@ -56,10 +56,12 @@ returns-2 c =
     let refusedFirstAt = if1At .before .before .before in
     let entry = refusedFirstAt .before .before .before .before .before .before .before .before .before .before in
     let a = entry .args in
-    let with : Shape → Words = λ (o : Shape). given (o .inputs) (o .counts) (now (a .nexts)) (now (a .resets)) (now (a .gates)) (now (a .sizes)) (now (a .roots)) in
+    let lent = given (a .inputs) (now (a .counts)) (now (a .nexts)) (now (a .resets)) (now (a .gates)) (now (a .sizes)) (now (a .roots)) in
+    let with : Shape → Words =
+    λ (o : Shape). given (o .inputs) (o .counts) (now (a .nexts)) (now (a .resets)) (now (a .gates)) (now (a .sizes)) (now (a .roots)) in
     let said = writeAt .write in
     let bytesLeft = said .last .1 .1 .1 .1 .1 .1 .0 in
-    way-written writing (given (a .inputs) (now (a .counts)) (now (a .nexts)) (now (a .resets)) (now (a .gates)) (now (a .sizes)) (now (a .roots))) (now (a .out)) (now (a .answer)) _
+    way-written writing lent (now (a .out)) (now (a .answer)) _
     (taken (now (a .counts)) (now (a .answer)) _ _ (refusedFirstAt .refused-first .ensures) (if1At .if1 .left))
     (with (shapeOfAt .shape-of .result)) (ap with (shapeOfAt .shape-of .ensures)) (wrote (said .result) bytesLeft) (said .ensures) _ _
     (putAnswerAt .put-answer .ensures)
