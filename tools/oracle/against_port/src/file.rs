@@ -1,10 +1,10 @@
-//! A real file: read, if it is binary, and written again; renumbered by the port and by the crate as it stands and renamed at random, with all flags, and written by the
-//! port as the port ordered it, which is read again.
+//! A real file: read in its own form, and written again if it is binary; renumbered by the port and by the crate as it stands and renamed at random, with all flags, and
+//! written by the port in both forms as the port ordered it, which is read again.
 use crate::{
     aiger::{self, File},
     binary,
     outcome::{by_crate, by_port, difference, ordered, Lists, Spare},
-    writing,
+    texts, writing,
 };
 use judge::{
     circuit::Circuit,
@@ -32,17 +32,22 @@ pub fn compare(path: &str, folder: &str, seed: u64) {
         assert!((written == bytes[..used]) == same, "a file that is read and written is the same just when it is plain");
         binary::whole(&written, &file.circuit);
         println!("  written by the port as by the crate, {} bytes, {}the same, and read again", written.len(), if same { "" } else { "not " });
+    } else {
+        let used = texts::whole(&bytes, &file.circuit);
+        println!("  read by the port as by the crate, {used} of {} bytes", bytes.len());
     }
     let mut random = Random(seed);
     let shuffled = renamed(&file.circuit, &mut random, false);
     let signs = renamed(&file.circuit, &mut random, true);
+    // a text has its definitions and gates in any order, and none that is odd
+    texts::whole(&aiger::write_text(&shuffled, &file.justice), &shuffled);
     let mut made = vec![];
     for (order, circuit) in [("given", &file.circuit), ("shuffled", &shuffled), ("signs", &signs)] {
         let counts = (0..8).map(|flags| one(&file, circuit, order, flags, folder).to_string());
         made.push(counts.collect::<Vec<_>>().join(" "));
     }
     made.dedup();
-    println!("  24 outcomes alike, and the 24 files that the port and the crate wrote alike are read alike; gates made with the flags 0 to 7: {}", made.join("; "));
+    println!("  24 outcomes alike, and the 24 files and 24 texts that the port and the crate wrote alike are read alike; gates made with the flags 0 to 7: {}", made.join("; "));
 }
 
 /// One outcome, compared and written: the number of gates made.
@@ -64,6 +69,7 @@ fn one(file: &File, circuit: &Circuit, order: &str, flags: u64, folder: &str) ->
     let written = writing::whole(&ordered, Form::Binary);
     binary::whole(&written, &ordered.circuit);
     assert!(aiger::read(&written).starts() == file.starts(), "each latch of what is written starts as it did");
+    texts::whole(&writing::whole(&ordered, Form::Text), &ordered.circuit);
     fs::write(path, written).expect("the file can be written");
     port.words[1]
 }
