@@ -1,5 +1,5 @@
-//! Files, one a line in hexadecimal (`-` for no bytes), and the answers about them: what the programs for binary files and for texts share.
-use crate::{file_compare::Compared, hex, random::Random};
+//! Answers about files, one a line in hexadecimal (`-` for no bytes): what the programs for binary files and for texts share.
+use crate::{file_compare::Compared, hex};
 use std::{
     collections::BTreeMap,
     io::{self, BufRead, BufWriter, Write},
@@ -27,25 +27,6 @@ pub fn answer<C>(compare: impl Fn(&[u8]) -> Result<Compared<C>, String>, words: 
     }
     for (kind, count) in tally {
         eprintln!("  {kind}: {count}");
-    }
-    out.flush()
-}
-
-/// Writes files to standard output: as many as the program's arguments say, from a seed, of up to so many gates.
-pub fn generate(program: &str, any: fn(&mut Random, u64) -> Vec<u8>) -> io::Result<()> {
-    let arguments: Vec<String> = std::env::args().skip(1).collect();
-    let numbers: Vec<u64> = arguments.iter().filter_map(|argument| argument.parse().ok()).collect();
-    let ([seed, count, gates], 3) = (&numbers[..], arguments.len()) else {
-        eprintln!("usage: {program} SEED COUNT MAXGATES");
-        std::process::exit(2)
-    };
-    let mut random = Random(*seed);
-    let mut out = BufWriter::new(io::stdout().lock());
-    for _ in 0..*count {
-        match &any(&mut random, *gates)[..] {
-            [] => writeln!(out, "-")?,
-            bytes => writeln!(out, "{}", hex::encode(bytes))?,
-        }
     }
     out.flush()
 }
