@@ -17,10 +17,10 @@
 #include <stdint.h>
 
 /* The version of this header and of the archive that belongs to it. */
-#define IMDAGLUZ_VERSION "0.6.0"
+#define IMDAGLUZ_VERSION "0.5.1"
 #define IMDAGLUZ_VERSION_MAJOR 0
-#define IMDAGLUZ_VERSION_MINOR 6
-#define IMDAGLUZ_VERSION_PATCH 0
+#define IMDAGLUZ_VERSION_MINOR 5
+#define IMDAGLUZ_VERSION_PATCH 1
 
 #ifdef __cplusplus
 extern "C" {
