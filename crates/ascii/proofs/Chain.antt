@@ -224,7 +224,9 @@ text-to-file bytes g out enough = go (readText bytes (roomOf (g .text))) refl
             archived t used e s (ap (λ (o : Outcome). C.outcome (handed o g) .answer) left-is ∙ f)
             (subst⁻¹ (λ (o : Outcome). KeepsText t (held (handed o g) s (C.outcome (handed o g)))) left-is
             (keeps t used g known (passes′ .0) (passes′ .1) long s f))
-            (subst⁻¹ (λ (o : Outcome). FitsOrShort (resultWith (handed o g) s (t .sizes)) (archiving (resultWith (handed o g) s (t .sizes)) out .answer)) left-is
+            (subst⁻¹ (λ (o : Outcome). FitsOrShort (resultWith (handed o g) s (t .sizes)) (archiving (resultWith (handed o g) s
+            (t .sizes)) out .answer)) left-is
             (only-short t used g known (passes′ .0) (passes′ .1) long s f out))
-            (subst⁻¹ (λ (o : Outcome). length (fileOf (resultWith (handed o g) s (t .sizes))) ≤ length out → Returns t (resultWith (handed o g) s (t .sizes)) out (g .back))
+            (subst⁻¹ (λ (o : Outcome). length (fileOf (resultWith (handed o g) s (t .sizes))) ≤ length out → Returns t (resultWith (handed o g) s
+            (t .sizes)) out (g .back))
             left-is (returns t used g known (passes′ .0) (passes′ .1) long s f out))

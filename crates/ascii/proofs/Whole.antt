@@ -50,23 +50,55 @@ module _ (h : Header) (room : Room) (at : ℕ) where
   unfolding sizedAt
   sized-nexts a₁ a₂ a₃ = rw (le-ltb (room .inputs) (h .inputs) a₁, le-ltb (room .states) (h .latches) a₂, lt-ltb (room .nexts) (h .latches) a₃)
 
-  pub sized-resets : h .inputs ≤ room .inputs → h .latches ≤ room .states → h .latches ≤ room .nexts → room .resets < h .latches → Broken Short at ≡ ended (sizedAt h room at)
+  pub sized-resets : h .inputs ≤ room .inputs → h .latches ≤ room .states → h .latches ≤ room .nexts → room .resets < h .latches
+      → Broken Short at ≡ ended (sizedAt h room at)
   unfolding sizedAt
-  sized-resets a₁ a₂ a₃ a₄ = rw (le-ltb (room .inputs) (h .inputs) a₁, le-ltb (room .states) (h .latches) a₂, le-ltb (room .nexts) (h .latches) a₃, lt-ltb (room .resets) (h .latches) a₄)
+  sized-resets a₁ a₂ a₃ a₄ = rw (
+    le-ltb (room .inputs) (h .inputs) a₁,
+    le-ltb (room .states) (h .latches) a₂,
+    le-ltb (room .nexts) (h .latches) a₃,
+    lt-ltb (room .resets) (h .latches) a₄,
+  )
 
-  pub sized-gates : h .inputs ≤ room .inputs → h .latches ≤ room .states → h .latches ≤ room .nexts → h .latches ≤ room .resets → room .gates < 3 * h .gates → Broken Short at ≡ ended (sizedAt h room at)
+  pub sized-gates : h .inputs ≤ room .inputs → h .latches ≤ room .states → h .latches ≤ room .nexts → h .latches ≤ room .resets
+      → room .gates < 3 * h .gates → Broken Short at ≡ ended (sizedAt h room at)
   unfolding sizedAt
-  sized-gates a₁ a₂ a₃ a₄ a₅ = rw (le-ltb (room .inputs) (h .inputs) a₁, le-ltb (room .states) (h .latches) a₂, le-ltb (room .nexts) (h .latches) a₃, le-ltb (room .resets) (h .latches) a₄, lt-ltb (room .gates) (3 * h .gates) a₅)
+  sized-gates a₁ a₂ a₃ a₄ a₅ = rw (
+    le-ltb (room .inputs) (h .inputs) a₁,
+    le-ltb (room .states) (h .latches) a₂,
+    le-ltb (room .nexts) (h .latches) a₃,
+    le-ltb (room .resets) (h .latches) a₄,
+    lt-ltb (room .gates) (3 * h .gates) a₅,
+  )
 
-  pub sized-sizes : h .inputs ≤ room .inputs → h .latches ≤ room .states → h .latches ≤ room .nexts → h .latches ≤ room .resets → 3 * h .gates ≤ room .gates → room .sizes < h .justice → Broken Short at ≡ ended (sizedAt h room at)
+  pub sized-sizes : h .inputs ≤ room .inputs → h .latches ≤ room .states → h .latches ≤ room .nexts → h .latches ≤ room .resets
+      → 3 * h .gates ≤ room .gates → room .sizes < h .justice → Broken Short at ≡ ended (sizedAt h room at)
   unfolding sizedAt
-  sized-sizes a₁ a₂ a₃ a₄ a₅ a₆ = rw (le-ltb (room .inputs) (h .inputs) a₁, le-ltb (room .states) (h .latches) a₂, le-ltb (room .nexts) (h .latches) a₃, le-ltb (room .resets) (h .latches) a₄, le-ltb (room .gates) (3 * h .gates) a₅, lt-ltb (room .sizes) (h .justice) a₆)
+  sized-sizes a₁ a₂ a₃ a₄ a₅ a₆ = rw (
+    le-ltb (room .inputs) (h .inputs) a₁,
+    le-ltb (room .states) (h .latches) a₂,
+    le-ltb (room .nexts)
+        (h .latches) a₃,
+    le-ltb (room .resets) (h .latches) a₄,
+    le-ltb (room .gates) (3 * h .gates) a₅,
+    lt-ltb (room .sizes) (h .justice) a₆,
+  )
 
-  pub sized-fits : h .inputs ≤ room .inputs → h .latches ≤ room .states → h .latches ≤ room .nexts → h .latches ≤ room .resets → 3 * h .gates ≤ room .gates → h .justice ≤ room .sizes → sizedAt h room at ≡ got tt at
+  pub sized-fits : h .inputs ≤ room .inputs → h .latches ≤ room .states → h .latches ≤ room .nexts → h .latches ≤ room .resets
+      → 3 * h .gates ≤ room .gates → h .justice ≤ room .sizes → sizedAt h room at ≡ got tt at
   unfolding sizedAt
-  sized-fits a₁ a₂ a₃ a₄ a₅ a₆ = rw (le-ltb (room .inputs) (h .inputs) a₁, le-ltb (room .states) (h .latches) a₂, le-ltb (room .nexts) (h .latches) a₃, le-ltb (room .resets) (h .latches) a₄, le-ltb (room .gates) (3 * h .gates) a₅, le-ltb (room .sizes) (h .justice) a₆)
+  sized-fits a₁ a₂ a₃ a₄ a₅ a₆ = rw (
+    le-ltb (room .inputs) (h .inputs) a₁,
+    le-ltb (room .states) (h .latches) a₂,
+    le-ltb (room .nexts)
+        (h .latches) a₃,
+    le-ltb (room .resets) (h .latches) a₄,
+    le-ltb (room .gates) (3 * h .gates) a₅,
+    le-ltb (room .sizes) (h .justice) a₆,
+  )
 
-  pub sized-is : h .inputs ≤ room .inputs → h .latches ≤ room .states → h .latches ≤ room .nexts → h .latches ≤ room .resets → 3 * h .gates ≤ room .gates → h .justice ≤ room .sizes → After at ≡ ended (sizedAt h room at)
+  pub sized-is : h .inputs ≤ room .inputs → h .latches ≤ room .states → h .latches ≤ room .nexts → h .latches ≤ room .resets
+      → 3 * h .gates ≤ room .gates → h .justice ≤ room .sizes → After at ≡ ended (sizedAt h room at)
   sized-is a₁ a₂ a₃ a₄ a₅ a₆ = sym (ap ended (sized-fits a₁ a₂ a₃ a₄ a₅ a₆))
 
   pub sized-taken : Roomy h room → sizedAt h room at ≡ got tt at
@@ -75,9 +107,11 @@ module _ (h : Header) (room : Room) (at : ℕ) where
   pub sized-roomy : (u : Unit {0}) (end : ℕ) → sizedAt h room at ≡ got u end → Roomy h room
   unfolding sizedAt
   sized-roomy u end e =
-      go (ltb (room .inputs) (h .inputs)) (ltb (room .states) (h .latches)) (ltb (room .nexts) (h .latches)) (ltb (room .resets) (h .latches)) (ltb (room .gates) (3 * h .gates)) (ltb (room .sizes) (h .justice)) refl refl refl refl refl refl e
+      go (ltb (room .inputs) (h .inputs)) (ltb (room .states) (h .latches)) (ltb (room .nexts) (h .latches)) (ltb (room .resets) (h .latches)) (ltb
+      (room .gates) (3 * h .gates)) (ltb (room .sizes) (h .justice)) refl refl refl refl refl refl e
     where
-      go : (a b c d x y : Bool) → ltb (room .inputs) (h .inputs) ≡ a → ltb (room .states) (h .latches) ≡ b → ltb (room .nexts) (h .latches) ≡ c → ltb (room .resets) (h .latches) ≡ d → ltb (room .gates) (3 * h .gates) ≡ x → ltb (room .sizes) (h .justice) ≡ y
+      go : (a b c d x y : Bool) → ltb (room .inputs) (h .inputs) ≡ a → ltb (room .states) (h .latches) ≡ b → ltb (room .nexts) (h .latches) ≡ c
+          → ltb (room .resets) (h .latches) ≡ d → ltb (room .gates) (3 * h .gates) ≡ x → ltb (room .sizes) (h .justice) ≡ y
           → cond (a || b || c || d || x || y) (no Short at) (got tt at) ≡ got u end → Roomy h room
       go true b c d x y e₁ e₂ e₃ e₄ e₅ e₆ k = absurd (let z : _≡_ {A = ℕ} 0 1 = cc in omega arith)
       go false true c d x y e₁ e₂ e₃ e₄ e₅ e₆ k = absurd (let z : _≡_ {A = ℕ} 0 1 = cc in omega arith)
@@ -96,19 +130,22 @@ module _ (h : Header) (room : Room) (at : ℕ) where
           }
 
 -- the root list is not looked at there
-sized-alike : (h : Header) (l : Lists) (at : ℕ) → sizedAt h (roomFor (length (l .inputs)) (length (l .states)) (length (l .nexts)) (length (l .resets)) (length (l .gates)) (length (l .sizes))) at ≡ sizedAt h (roomOf l) at
+sized-alike : (h : Header) (l : Lists) (at : ℕ) → sizedAt h (roomFor (length (l .inputs)) (length (l .states)) (length (l .nexts)) (length
+    (l .resets)) (length (l .gates)) (length (l .sizes))) at ≡ sizedAt h (roomOf l) at
 unfolding sizedAt
 sized-alike h l at = refl
 
 module _ (s : List ℕ) (h : Header) (at : ℕ) (l l′ : Lists) (r : Ended)
-    (e : r ≡ ended (sizedAt h (roomFor (length (l .inputs)) (length (l .states)) (length (l .nexts)) (length (l .resets)) (length (l .gates)) (length (l .sizes))) at)) where
+    (e : r ≡ ended (sizedAt h (roomFor (length (l .inputs)) (length (l .states)) (length (l .nexts)) (length (l .resets)) (length (l .gates))
+    (length (l .sizes))) at)) where
   told : ended (sizedAt h (roomOf l) at) ≡ r
   told = ap ended (sym (sized-alike h l at)) ∙ sym e
 
   pub body-roomy : (next : ℕ) → r ≡ After next → Roomy h (roomOf l)
   body-roomy next f = let g = after-got (sizedAt h (roomOf l) at) next (told ∙ f) in sized-roomy h (roomOf l) at (g .0) next (g .1)
 
-  pub body-is : (next : ℕ) (x : Reading) → r ≡ After next → StoresText (listsAt s (length (l .roots)) h next) x l l′ → StoresText (bodyAt s (roomOf l) h at) x l l′
+  pub body-is : (next : ℕ) (x : Reading) → r ≡ After next → StoresText (listsAt s (length (l .roots)) h next) x l l′ → StoresText (bodyAt s
+      (roomOf l) h at) x l l′
   unfolding bodyAt
   body-is next x f g =
       let a = after-got (sizedAt h (roomOf l) at) next (told ∙ f) in

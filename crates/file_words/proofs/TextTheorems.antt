@@ -1,5 +1,5 @@
 -- What follows of the contracts of reading and of writing a text for C: each allows one outcome; reading gives these refusals and no others, none past the end;
--- with bytes for every text, writing never gives 3. The examples stand in TextPins.antt. Assumes nothing.
+-- with lists of the limits reading never gives 3, and with bytes for every text writing does not. The examples stand in TextPins.antt. Assumes nothing.
 use Prim.Native.Nat.{ℕ, _+_, _*_, _≤_}
 use mathlib.Core.Path.{_≡_, refl, sym, _∙_, ap}
 use mathlib.Core.Logic.{_≢_}
@@ -7,23 +7,28 @@ use mathlib.Core.Bool.{true}
 use mathlib.Core.List.{List, [], _∷_}
 use native.Mathlib.Omega.{arith}
 use lib.ListN.{length}
+use borrow.Author.Tests.{le-ltb}
 use denote.Ref.{now}
 use Rattle.promise.specs.Determined.{DeterminesCells}
 use Rattle.lines.specs.declared.Fault.{Fault}
 use Rattle.lines.specs.Numbers.{faultNumber}
-use Rattle.lines.specs.Reading.{got, no}
+use Rattle.lines.specs.Reading.{Read, got, no}
 use Rattle.ordered.specs.WellOrdered.{variablesOf}
 use Rattle.ordered.specs.Check.{Words, circuitIn}
 use Rattle.ordered.specs.Given as ordered
 use Rattle.binary.specs.Write.{fileIn}
 use Rattle.ascii.specs.Text.{Text, Room, readText}
+use Rattle.ascii.specs.Promise.{Lists, roomOf, left}
+use Rattle.ascii.specs.Known.{Ample}
 use Rattle.ascii.specs.Write.{textOf, writing}
+use Rattle.ascii.proofs.Theorems.{never-short}
 use Rattle.ascii.proofs.WriteMost as most
 use Rattle.file_words.specs.Write.{Seen}
-use Rattle.file_words.specs.Text.{TextSeen, writeTextSeen}
+use Rattle.file_words.specs.Read.{fileNumber}
+use Rattle.file_words.specs.Text.{TextSeen, readTextSeen, writeTextSeen}
 use Rattle.file_words.proofs.Refusals.{only-refused, only-taken}
 use Rattle.file_words.proofs.TextRefusals.{HasText, only-text}
-use Rattle.file_words.proofs.Theorems.{among, not-short}
+use Rattle.file_words.proofs.Theorems.{among, three-is-short, not-short}
 use Rattle.file_words.proofs.read_text.Kinds as read-kinds
 use Rattle.file_words.proofs.read_text.Reads as read-promise
 use Rattle.file_words.proofs.write_text.Kinds as write-kinds
@@ -84,6 +89,16 @@ texts-refused-given bytes room why place e = only-refused bytes TextGiven (readT
 -- nor are there more bytes used than there are
 pub text-bytes-used : (bytes : List ℕ) (room : Room) (t : Text) (n : ℕ) → readText bytes room ≡ got t n → n ≤ length bytes
 text-bytes-used bytes room t n e = only-taken bytes TextGiven (readText bytes room) t n (only-text bytes room TextGiven has-given) e
+
+-- with room for the answer and lists of the limits, 1,048,575 words for inputs, states, next states, resets, sizes and roots, 3,145,725 for gates, no text is
+-- answered 3
+pub never-three-text : (bytes : List ℕ) (l : Lists) (words : List ℕ) → 11 ≤ length words → Ample (roomOf l) → readTextSeen bytes l words .number ≢ 3
+unfolding readTextSeen
+never-three-text bytes l words room ample = rw (le-ltb (length words) 11 room) (go (readText bytes (roomOf l)) refl)
+  where
+    go : (R : Read Text) → readText bytes (roomOf l) ≡ R → fileNumber (left R l .read .answer) ≢ 3
+    go (got t at) e = omega arith
+    go (no why place) e = λ three. never-short bytes (roomOf l) ample place (e ∙ ap (λ (w : Fault). no w place) (three-is-short why three))
 
 -- what is written of an ordered circuit of V variables, R roots and J justice sets has at most 76 + 8 (3 V + R + J) bytes
 pub text-most : (w : Words) → ordered.Given w

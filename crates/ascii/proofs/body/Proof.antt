@@ -18,8 +18,10 @@ lists-requires c κs =
     let sizedAt = roomAt .before .before in
     let entry = sizedAt .before .before .before .before .before .before .before .before .before in (
       entry .pre,
-      body-roomy (now (entry .args .s)) (entry .args .h) (entry .args .at) (listsOf (now (entry .args .inputs)) (now (entry .args .states)) (now (entry .args .nexts)) (now (entry .args .resets)) (now (entry .args .gates)) (now (entry .args .sizes)) (now (entry .args .roots)))
-          (listsOf (now (entry .args .inputs)) (now (entry .args .states)) (now (entry .args .nexts)) (now (entry .args .resets)) (now (entry .args .gates)) (now (entry .args .sizes)) (now (entry .args .roots))) _ (sizedAt .sized .ensures) _ (roomAt .room .given .1),
+      body-roomy (now (entry .args .s)) (entry .args .h) (entry .args .at) (listsOf (now (entry .args .inputs)) (now (entry .args .states)) (now
+          (entry .args .nexts)) (now (entry .args .resets)) (now (entry .args .gates)) (now (entry .args .sizes)) (now (entry .args .roots)))
+          (listsOf (now (entry .args .inputs)) (now (entry .args .states)) (now (entry .args .nexts)) (now (entry .args .resets)) (now
+          (entry .args .gates)) (now (entry .args .sizes)) (now (entry .args .roots))) _ (sizedAt .sized .ensures) _ (roomAt .room .given .1),
     )
 
 enum-known-room-2 : tie.Need-enum-known-room-2
@@ -52,7 +54,8 @@ returns c =
     let roomAt = listsAt .before .before .before .before .before .before .before .before .before in
     let sizedAt = roomAt .before .before in
     let entry = sizedAt .before .before .before .before .before .before .before .before .before in
-    body-is (now (entry .args .s)) (entry .args .h) (entry .args .at) (listsOf (now (entry .args .inputs)) (now (entry .args .states)) (now (entry .args .nexts)) (now (entry .args .resets)) (now (entry .args .gates)) (now (entry .args .sizes)) (now (entry .args .roots)))
+    body-is (now (entry .args .s)) (entry .args .h) (entry .args .at) (listsOf (now (entry .args .inputs)) (now (entry .args .states)) (now
+    (entry .args .nexts)) (now (entry .args .resets)) (now (entry .args .gates)) (now (entry .args .sizes)) (now (entry .args .roots)))
     _ _ (sizedAt .sized .ensures) _ _ (roomAt .room .given .1) (listsAt .lists .ensures)
 
 returns-2 : tie.Need-returns-2
@@ -60,7 +63,8 @@ returns-2 c =
     let room2At = c .before in
     let sizedAt = room2At .before .before in
     let entry = sizedAt .before .before .before .before .before .before .before .before .before in
-    body-not (now (entry .args .s)) (entry .args .h) (entry .args .at) (listsOf (now (entry .args .inputs)) (now (entry .args .states)) (now (entry .args .nexts)) (now (entry .args .resets)) (now (entry .args .gates)) (now (entry .args .sizes)) (now (entry .args .roots)))
+    body-not (now (entry .args .s)) (entry .args .h) (entry .args .at) (listsOf (now (entry .args .inputs)) (now (entry .args .states)) (now
+    (entry .args .nexts)) (now (entry .args .resets)) (now (entry .args .gates)) (now (entry .args .sizes)) (now (entry .args .roots)))
     _ _ (sizedAt .sized .ensures) _ _ (room2At .room2 .given .1)
 
 pub body-spec : {M : Type 1} → statement M

@@ -89,9 +89,11 @@ returns c =
     let inputsAt = listedAt .before .before .before .before in
     let wideAt = inputsAt .before .before in
     let entry = wideAt .before .before .before .before .before .before .before .before .before .before in
-    lists-is (now (entry .args .s)) (entry .args .h) (entry .args .at) (now (entry .args .inputs)) (now (entry .args .states)) (now (entry .args .nexts)) (now (entry .args .resets)) (now (entry .args .gates)) (now (entry .args .sizes)) (now (entry .args .roots))
+    lists-is (now (entry .args .s)) (entry .args .h) (entry .args .at) (now (entry .args .inputs)) (now (entry .args .states)) (now
+    (entry .args .nexts)) (now (entry .args .resets)) (now (entry .args .gates)) (now (entry .args .sizes)) (now (entry .args .roots))
     (entry .pre .1) _ (wideAt .wide .ensures) _ _ (inputsAt .inputs .ensures) _ (listedAt .listed .given .1) _ (wide2At .wide2 .ensures) _ _ _ _
-    (latchesAt .latches .ensures) _ (latchedAt .latched .given .1) _ _ _ (rootsAt .roots .ensures) _ _ (rootedAt .rooted .given .1) _ _ (gatesAt .gates .ensures) _ (gatedAt .gated .given .1)
+    (latchesAt .latches .ensures) _ (latchedAt .latched .given .1) _ _ _ (rootsAt .roots .ensures) _ _ (rootedAt .rooted .given .1) _ _
+    (gatesAt .gates .ensures) _ (gatedAt .gated .given .1)
 
 same-length-8 : tie.Need-same-length-8
 same-length-8 c =
@@ -129,9 +131,11 @@ returns-2 c =
     let inputsAt = listedAt .before .before .before .before in
     let wideAt = inputsAt .before .before in
     let entry = wideAt .before .before .before .before .before .before .before .before .before .before in
-    lists-gates (now (entry .args .s)) (entry .args .h) (entry .args .at) (now (entry .args .inputs)) (now (entry .args .states)) (now (entry .args .nexts)) (now (entry .args .resets)) (now (entry .args .gates)) (now (entry .args .sizes)) (now (entry .args .roots))
+    lists-gates (now (entry .args .s)) (entry .args .h) (entry .args .at) (now (entry .args .inputs)) (now (entry .args .states)) (now
+    (entry .args .nexts)) (now (entry .args .resets)) (now (entry .args .gates)) (now (entry .args .sizes)) (now (entry .args .roots))
     (entry .pre .1) _ (wideAt .wide .ensures) _ _ (inputsAt .inputs .ensures) _ (listedAt .listed .given .1) _ (wide2At .wide2 .ensures) _ _ _ _
-    (latchesAt .latches .ensures) _ (latchedAt .latched .given .1) _ _ _ (rootsAt .roots .ensures) _ _ (rootedAt .rooted .given .1) _ _ (gatesAt .gates .ensures) _ _ _ (gated2At .gated2 .given .1)
+    (latchesAt .latches .ensures) _ (latchedAt .latched .given .1) _ _ _ (rootsAt .roots .ensures) _ _ (rootedAt .rooted .given .1) _ _
+    (gatesAt .gates .ensures) _ _ _ (gated2At .gated2 .given .1)
 
 same-length-15 : tie.Need-same-length-15
 same-length-15 c = search needs
@@ -162,7 +166,8 @@ returns-3 c =
     let inputsAt = listedAt .before .before .before .before in
     let wideAt = inputsAt .before .before in
     let entry = wideAt .before .before .before .before .before .before .before .before .before .before in
-    lists-roots (now (entry .args .s)) (entry .args .h) (entry .args .at) (now (entry .args .inputs)) (now (entry .args .states)) (now (entry .args .nexts)) (now (entry .args .resets)) (now (entry .args .gates)) (now (entry .args .sizes)) (now (entry .args .roots))
+    lists-roots (now (entry .args .s)) (entry .args .h) (entry .args .at) (now (entry .args .inputs)) (now (entry .args .states)) (now
+    (entry .args .nexts)) (now (entry .args .resets)) (now (entry .args .gates)) (now (entry .args .sizes)) (now (entry .args .roots))
     (entry .pre .1) _ (wideAt .wide .ensures) _ _ (inputsAt .inputs .ensures) _ (listedAt .listed .given .1) _ (wide2At .wide2 .ensures) _ _ _ _
     (latchesAt .latches .ensures) _ (latchedAt .latched .given .1) _ _ _ (rootsAt .roots .ensures) _ _ _ (rooted2At .rooted2 .given .1)
 
@@ -187,7 +192,8 @@ returns-4 c =
     let inputsAt = listedAt .before .before .before .before in
     let wideAt = inputsAt .before .before in
     let entry = wideAt .before .before .before .before .before .before .before .before .before .before in
-    lists-latches (now (entry .args .s)) (entry .args .h) (entry .args .at) (now (entry .args .inputs)) (now (entry .args .states)) (now (entry .args .nexts)) (now (entry .args .resets)) (now (entry .args .gates)) (now (entry .args .sizes)) (now (entry .args .roots))
+    lists-latches (now (entry .args .s)) (entry .args .h) (entry .args .at) (now (entry .args .inputs)) (now (entry .args .states)) (now
+    (entry .args .nexts)) (now (entry .args .resets)) (now (entry .args .gates)) (now (entry .args .sizes)) (now (entry .args .roots))
     (entry .pre .1) _ (wideAt .wide .ensures) _ _ (inputsAt .inputs .ensures) _ (listedAt .listed .given .1) _ (wide2At .wide2 .ensures) _ _ _ _
     (latchesAt .latches .ensures) _ _ _ (latched2At .latched2 .given .1)
 
@@ -200,7 +206,8 @@ returns-5 c =
     let inputsAt = listed2At .before .before .before .before in
     let wideAt = inputsAt .before .before in
     let entry = wideAt .before .before .before .before .before .before .before .before .before .before in
-    lists-inputs (now (entry .args .s)) (entry .args .h) (entry .args .at) (now (entry .args .inputs)) (now (entry .args .states)) (now (entry .args .nexts)) (now (entry .args .resets)) (now (entry .args .gates)) (now (entry .args .sizes)) (now (entry .args .roots))
+    lists-inputs (now (entry .args .s)) (entry .args .h) (entry .args .at) (now (entry .args .inputs)) (now (entry .args .states)) (now
+    (entry .args .nexts)) (now (entry .args .resets)) (now (entry .args .gates)) (now (entry .args .sizes)) (now (entry .args .roots))
     (entry .pre .1) _ (wideAt .wide .ensures) _ _ (inputsAt .inputs .ensures) _ _ _ (listed2At .listed2 .given .1)
 
 pub lists-spec : {M : Type 1} → statement M

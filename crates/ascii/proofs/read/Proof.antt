@@ -18,7 +18,8 @@ body-requires c κs =
     let firstAt = c .before .before .before .before .before .before .before .before in
     let read-headerAt = firstAt .before .before in
     let entry = read-headerAt .before .before .before .before .before .before .before .before .before in
-    read-within (now (entry .args .bytes)) (listsOf (now (entry .args .inputs)) (now (entry .args .states)) (now (entry .args .nexts)) (now (entry .args .resets)) (now (entry .args .gates)) (now (entry .args .sizes)) (now (entry .args .roots))) _ _
+    read-within (now (entry .args .bytes)) (listsOf (now (entry .args .inputs)) (now (entry .args .states)) (now (entry .args .nexts)) (now
+    (entry .args .resets)) (now (entry .args .gates)) (now (entry .args .sizes)) (now (entry .args .roots))) _ _
     (sym (read-headerAt .read-header .ensures) ∙ firstAt .first .given .1)
 
 enum-known-rest : tie.Need-enum-known-rest
@@ -64,7 +65,8 @@ returns c =
     let firstAt = bodyAt .before .before .before .before .before .before .before .before .before in
     let read-headerAt = firstAt .before .before in
     let entry = read-headerAt .before .before .before .before .before .before .before .before .before in
-    read-is (now (entry .args .bytes)) (listsOf (now (entry .args .inputs)) (now (entry .args .states)) (now (entry .args .nexts)) (now (entry .args .resets)) (now (entry .args .gates)) (now (entry .args .sizes)) (now (entry .args .roots)))
+    read-is (now (entry .args .bytes)) (listsOf (now (entry .args .inputs)) (now (entry .args .states)) (now (entry .args .nexts)) (now
+    (entry .args .resets)) (now (entry .args .gates)) (now (entry .args .sizes)) (now (entry .args .roots)))
     _ _ (sym (read-headerAt .read-header .ensures) ∙ firstAt .first .given .1) _ _ (bodyAt .body .ensures) _ _ (restAt .rest .given .1)
 
 same-length-8 : tie.Need-same-length-8
@@ -105,8 +107,10 @@ returns-2 c =
     let firstAt = bodyAt .before .before .before .before .before .before .before .before .before in
     let read-headerAt = firstAt .before .before in
     let entry = read-headerAt .before .before .before .before .before .before .before .before .before in
-    read-refused (now (entry .args .bytes)) (listsOf (now (entry .args .inputs)) (now (entry .args .states)) (now (entry .args .nexts)) (now (entry .args .resets)) (now (entry .args .gates)) (now (entry .args .sizes)) (now (entry .args .roots)))
-    _ _ (sym (read-headerAt .read-header .ensures) ∙ firstAt .first .given .1) (listsOf _ _ _ _ _ _ _) _ (bodyAt .body .ensures) _ _ _ (rest2At .rest2 .given .1)
+    read-refused (now (entry .args .bytes)) (listsOf (now (entry .args .inputs)) (now (entry .args .states)) (now (entry .args .nexts)) (now
+    (entry .args .resets)) (now (entry .args .gates)) (now (entry .args .sizes)) (now (entry .args .roots)))
+    _ _ (sym (read-headerAt .read-header .ensures) ∙ firstAt .first .given .1) (listsOf _ _ _ _ _ _ _) _ (bodyAt .body .ensures) _ _ _
+    (rest2At .rest2 .given .1)
     (record {
       inputs = bodyAt .body .kept .1 .1 .1 .0;
       states = bodyAt .body .kept .1 .1 .1 .1 .0;
@@ -145,7 +149,8 @@ returns-3 c =
     let first2At = refused2At .before .before .before .before .before .before .before .before .before in
     let read-headerAt = first2At .before .before in
     let entry = read-headerAt .before .before .before .before .before .before .before .before .before in
-    read-no-header (now (entry .args .bytes)) (listsOf (now (entry .args .inputs)) (now (entry .args .states)) (now (entry .args .nexts)) (now (entry .args .resets)) (now (entry .args .gates)) (now (entry .args .sizes)) (now (entry .args .roots)))
+    read-no-header (now (entry .args .bytes)) (listsOf (now (entry .args .inputs)) (now (entry .args .states)) (now (entry .args .nexts)) (now
+    (entry .args .resets)) (now (entry .args .gates)) (now (entry .args .sizes)) (now (entry .args .roots)))
     _ _ _ (sym (read-headerAt .read-header .ensures) ∙ first2At .first2 .given .1) (refused2At .refused2 .ensures)
 
 pub read-spec : {M : Type 1} → statement M

@@ -60,7 +60,8 @@ returns c =
     let fillAt = fill2At .before .before .before .before in
     let entry = fillAt .before .before .before .before .before .before .before .before .before in
     ap (seen (answered (no (entry .args .why) (entry .args .place))))
-    (seven (fillAt .fill .ensures) (fill2At .fill2 .ensures) (fill3At .fill3 .ensures) (fill4At .fill4 .ensures) (fill5At .fill5 .ensures) (fill6At .fill6 .ensures) (fill7At .fill7 .ensures))
+    (seven (fillAt .fill .ensures) (fill2At .fill2 .ensures) (fill3At .fill3 .ensures) (fill4At .fill4 .ensures) (fill5At .fill5 .ensures)
+    (fill6At .fill6 .ensures) (fill7At .fill7 .ensures))
 
 pub refused-spec : {M : Type 1} → statement M
 refused-spec =

@@ -33,7 +33,9 @@ returns-3 c =
     let wide2At = if2At .before in
     let if1At = wide2At .before in
     let wideAt = if1At .before in
-    sized-nexts _ _ _ (omega (arith, wideAt .wide .ensures, if1At .if1 .left)) (omega (arith, wide2At .wide2 .ensures, if2At .if2 .left)) (omega (arith, wide3At .wide3 .ensures, c .if3 .taken))
+    sized-nexts _ _ _ (omega (arith, wideAt .wide .ensures, if1At .if1 .left))
+    (omega (arith, wide2At .wide2 .ensures, if2At .if2 .left))
+    (omega (arith, wide3At .wide3 .ensures, c .if3 .taken))
 
 wide-requires-4 : tie.Need-wide-requires-4
 wide-requires-4 c κs = search needs
@@ -47,7 +49,10 @@ returns-4 c =
     let wide2At = if2At .before in
     let if1At = wide2At .before in
     let wideAt = if1At .before in
-    sized-resets _ _ _ (omega (arith, wideAt .wide .ensures, if1At .if1 .left)) (omega (arith, wide2At .wide2 .ensures, if2At .if2 .left)) (omega (arith, wide3At .wide3 .ensures, if3At .if3 .left)) (omega (arith, wide4At .wide4 .ensures, c .if4 .taken))
+    sized-resets _ _ _ (omega (arith, wideAt .wide .ensures, if1At .if1 .left))
+    (omega (arith, wide2At .wide2 .ensures, if2At .if2 .left))
+    (omega (arith, wide3At .wide3 .ensures, if3At .if3 .left))
+    (omega (arith, wide4At .wide4 .ensures, c .if4 .taken))
 
 wide-requires-5 : tie.Need-wide-requires-5
 wide-requires-5 c κs = search needs
@@ -66,7 +71,11 @@ returns-5 c =
     let wide2At = if2At .before in
     let if1At = wide2At .before in
     let wideAt = if1At .before in
-    sized-gates _ _ _ (omega (arith, wideAt .wide .ensures, if1At .if1 .left)) (omega (arith, wide2At .wide2 .ensures, if2At .if2 .left)) (omega (arith, wide3At .wide3 .ensures, if3At .if3 .left)) (omega (arith, wide4At .wide4 .ensures, if4At .if4 .left)) (omega (arith, wide5At .wide5 .ensures, c .if5 .taken))
+    sized-gates _ _ _ (omega (arith, wideAt .wide .ensures, if1At .if1 .left))
+    (omega (arith, wide2At .wide2 .ensures, if2At .if2 .left))
+    (omega (arith, wide3At .wide3 .ensures, if3At .if3 .left))
+    (omega (arith, wide4At .wide4 .ensures, if4At .if4 .left))
+    (omega (arith, wide5At .wide5 .ensures, c .if5 .taken))
 
 wide-requires-6 : tie.Need-wide-requires-6
 wide-requires-6 c κs = search needs
@@ -84,7 +93,12 @@ returns-6 c =
     let wide2At = if2At .before in
     let if1At = wide2At .before in
     let wideAt = if1At .before in
-    sized-sizes _ _ _ (omega (arith, wideAt .wide .ensures, if1At .if1 .left)) (omega (arith, wide2At .wide2 .ensures, if2At .if2 .left)) (omega (arith, wide3At .wide3 .ensures, if3At .if3 .left)) (omega (arith, wide4At .wide4 .ensures, if4At .if4 .left)) (omega (arith, wide5At .wide5 .ensures, if5At .if5 .left)) (omega (arith, wide6At .wide6 .ensures, c .if6 .taken))
+    sized-sizes _ _ _ (omega (arith, wideAt .wide .ensures, if1At .if1 .left))
+    (omega (arith, wide2At .wide2 .ensures, if2At .if2 .left))
+    (omega (arith, wide3At .wide3 .ensures, if3At .if3 .left))
+    (omega (arith, wide4At .wide4 .ensures, if4At .if4 .left))
+    (omega (arith, wide5At .wide5 .ensures, if5At .if5 .left))
+    (omega (arith, wide6At .wide6 .ensures, c .if6 .taken))
 
 returns-7 : tie.Need-returns-7
 returns-7 c =
@@ -99,7 +113,12 @@ returns-7 c =
     let wide2At = if2At .before in
     let if1At = wide2At .before in
     let wideAt = if1At .before in
-    sized-is _ _ _ (omega (arith, wideAt .wide .ensures, if1At .if1 .left)) (omega (arith, wide2At .wide2 .ensures, if2At .if2 .left)) (omega (arith, wide3At .wide3 .ensures, if3At .if3 .left)) (omega (arith, wide4At .wide4 .ensures, if4At .if4 .left)) (omega (arith, wide5At .wide5 .ensures, if5At .if5 .left)) (omega (arith, wide6At .wide6 .ensures, c .if6 .left))
+    sized-is _ _ _ (omega (arith, wideAt .wide .ensures, if1At .if1 .left))
+    (omega (arith, wide2At .wide2 .ensures, if2At .if2 .left))
+    (omega (arith, wide3At .wide3 .ensures, if3At .if3 .left))
+    (omega (arith, wide4At .wide4 .ensures, if4At .if4 .left))
+    (omega (arith, wide5At .wide5 .ensures, if5At .if5 .left))
+    (omega (arith, wide6At .wide6 .ensures, c .if6 .left))
 
 pub sized-spec : {M : Type 1} → statement M
 sized-spec =
