@@ -78,10 +78,12 @@ pub first-pinned :
     × (firstNumber counts (51 ∷ 52 ∷ []) ≡ 0) × (firstWords counts (51 ∷ 52 ∷ []) ≡ 51 ∷ 52 ∷ [])
     × (firstNumber (1 ∷ 1 ∷ 1 ∷ 3 ∷ []) three ≡ 2) × (firstWords (1 ∷ 1 ∷ 1 ∷ 3 ∷ []) three ≡ 0 ∷ 0 ∷ 53 ∷ [])
     × (firstNumber (1 ∷ 1 ∷ 1 ∷ 1 ∷ 2 ∷ 0 ∷ []) three ≡ 2) × (firstWords (1 ∷ 1 ∷ 1 ∷ 1 ∷ 2 ∷ 0 ∷ []) three ≡ 0 ∷ 0 ∷ 53 ∷ [])
+    × (firstNumber (1 ∷ 1 ∷ 1 ∷ 3 ∷ []) (51 ∷ 52 ∷ []) ≡ 2) × (firstWords (1 ∷ 1 ∷ 1 ∷ 3 ∷ []) (51 ∷ 52 ∷ []) ≡ 0 ∷ 0 ∷ [])
+    × (firstNumber [] three ≡ 2) × (firstWords [] three ≡ 0 ∷ 0 ∷ 53 ∷ [])
     × (firstNumber [] (51 ∷ []) ≡ 3) × (firstWords [] (51 ∷ []) ≡ 51 ∷ [])
     × (firstNumber counts (51 ∷ []) ≡ 3) × (firstWords counts (51 ∷ []) ≡ 51 ∷ [])
 unfolding firstNumber firstWords
-first-pinned = (refl, refl, refl, refl, refl, refl, refl, refl, refl, refl, refl, refl)
+first-pinned = (refl, refl, refl, refl, refl, refl, refl, refl, refl, refl, refl, refl, refl, refl, refl, refl)
 
 -- circuits that are written
 pub written-pinned :
