@@ -17,21 +17,25 @@
 #include <stdint.h>
 
 /* The version of this header and of the archive that belongs to it. */
-#define IMDAGLUZ_VERSION "0.5.0"
+#define IMDAGLUZ_VERSION "0.5.1"
 #define IMDAGLUZ_VERSION_MAJOR 0
 #define IMDAGLUZ_VERSION_MINOR 5
-#define IMDAGLUZ_VERSION_PATCH 0
+#define IMDAGLUZ_VERSION_PATCH 1
 
 #ifdef __cplusplus
 extern "C" {
 #endif
 
-/* The largest V, I, L, G and R, and so the most words that a list of codes has: lists of this length, gates of pairs twice it, hold every circuit. */
+/* The largest V, I, L, G and R, and so the most words that a list of codes has: lists of this length, gates of pairs twice it and of triples three times it,
+ * hold every circuit. */
 #define IMDAGLUZ_LIST 1048575
 
 /* The most bytes that a binary file has, as imdagluz_write_aig writes it, of a circuit with so many variables, latches, roots and justice sets. */
 #define IMDAGLUZ_FILE_BYTES(variables, latches, roots, sets) \
     (76 + 8 * ((size_t)(variables) + (size_t)(latches) + (size_t)(roots) + (size_t)(sets)))
+
+/* The most bytes that a text file has, as imdagluz_write_aag writes it, of a circuit with so many variables, roots and justice sets. */
+#define IMDAGLUZ_TEXT_BYTES(variables, roots, sets) (76 + 8 * (3 * (size_t)(variables) + (size_t)(roots) + (size_t)(sets)))
 
 /* A latch's reset says its first value. It is a word of the same kind wherever a list of resets is read or written:
  *   0                          the latch starts at 0
@@ -40,7 +44,7 @@ extern "C" {
  * Any other word is no reset. What 0 and 1 say is the first bit of that literal as it is written, so nothing is flipped where an odd one becomes even. */
 
 /* Refusal numbers. 0 is success. imdagluz_delta gives 3 and 15 to 17, imdagluz_renumber 1 to 8 and 22, imdagluz_read_aig 1, 3, 10 to 12 and 15 to 22,
- * imdagluz_expand 1 to 3, imdagluz_write_aig 1 to 4, 22 and 23. No function here gives 13 or 14, which are for a literal that a text file assigns.
+ * imdagluz_read_aag 1, 3, 10 to 14, 18, 21 and 22, imdagluz_expand 1 to 3, imdagluz_write_aig and imdagluz_write_aag 1 to 4, 22 and 23.
  * 9 is withdrawn, and its number is not used again. */
 enum {
     IMDAGLUZ_TOO_BIG = 1,          /* V, I, L, G or R is over 1,048,575 */
@@ -54,6 +58,8 @@ enum {
     IMDAGLUZ_NO_NUMBER = 10,       /* no digit stands where a number begins */
     IMDAGLUZ_LEADING_ZERO = 11,    /* a number of two or more digits begins with 0 */
     IMDAGLUZ_NUMBER_OVER = 12,     /* a number is over its limit */
+    IMDAGLUZ_DEFINES_ZERO = 13,    /* a text file defines the literal 0 */
+    IMDAGLUZ_DEFINES_ODD = 14,     /* a text file defines an odd literal */
     IMDAGLUZ_DELTA_CUT = 15,       /* the delta is cut by the end of the bytes */
     IMDAGLUZ_DELTA_TOO_LONG = 16,  /* the delta's eighth byte has its top bit set */
     IMDAGLUZ_DELTA_OVER = 17,      /* the delta is over its reference */
@@ -307,6 +313,98 @@ uint32_t imdagluz_expand(uint32_t inputs, uint32_t latches, const uint32_t *gate
  *
  * Time: in proportion to the lists and the bytes written. */
 uint32_t imdagluz_write_aig(uint32_t inputs, const uint32_t *counts, size_t counts_length,
+                            const uint32_t *nexts, size_t nexts_length,
+                            const uint32_t *resets, size_t resets_length,
+                            const uint32_t *gates, size_t gates_length,
+                            const uint32_t *sizes, size_t sizes_length,
+                            const uint32_t *roots, size_t roots_length,
+                            uint8_t *out, size_t out_length,
+                            uint64_t *answer, size_t answer_length);
+
+/* Reads a text AIGER file: a header M I L O A with the optional counts B C J F of AIGER 1.9, a line for each input, a line for each latch, the root lines in
+ * the file's order (outputs, bad states, constraints, justice sizes, justice literals, fairness), then A lines of gates. An input's line has its code; a
+ * latch's its state, its next state and, where it is there, its reset, which else is 0; a gate's its output, its first and its second input; one space
+ * stands between two numbers. Codes and gates may come in any order. Nothing after the last gate is looked at: the symbols, if there are any, begin at the
+ * byte that answer[0] says.
+ *
+ * The bytes are only read:
+ *   bytes, length            the file, or any bytes
+ * Written; a list may be longer than is asked here:
+ *   inputs, inputs_length    I words
+ *   states, states_length    L words
+ *   nexts, nexts_length      L words
+ *   resets, resets_length    L words
+ *   gates, gates_length      3A words
+ *   sizes, sizes_length      J words
+ *   roots, roots_length      R words
+ *   answer, answer_length    11 words of 64 bits
+ * Lists of IMDAGLUZ_LIST words, for gates three times that, are long enough for every file: with such lists refusal 3 is not given, so that nobody has to
+ * measure a file before it is read.
+ *
+ * Answers 0 on success. Then the lists hold a circuit as imdagluz_renumber takes it, with M for the largest variable:
+ *   answer  0: how many bytes the file took, to the last gate, at most length. 1: M, which may be above I+L+A. 2: I. 3: L. 4: A. 5 to 9: how many roots are
+ *           outputs, bad states, constraints, fairness and justice literals, in this order; they add up to R, at most 1,048,575. 10: J, the number of
+ *           justice sets
+ *   inputs  the inputs' codes, in their order, as they are written
+ *   states  the latches' states, in their order
+ *   nexts   their next states
+ *   resets  their resets: 0, 1, or the latch's own literal, which is its state
+ *   gates   of each gate its output, its first and its second input, as they are written
+ *   sizes   how many literals each justice set has; they add up to answer[9]
+ *   roots   outputs, bad states, constraints, fairness, justice, in this order, which is that of imdagluz_renumber: the file has justice before fairness.
+ * Words past those named stay as they were. Every code is at most 2M+1; inputs, states and outputs are even and not 0. So imdagluz_renumber, with lists that
+ * are long enough, refuses none of these circuits by 1 to 4 or 22. It may by 5 to 8: a variable that is defined twice, a gate that needs itself, and a literal
+ * that nothing defines are read as they stand.
+ *
+ * Or answers a refusal: the first thing wrong on the way through the file, with its place in answer[0] and 0 in answer[1] to answer[10]. A place is a
+ * count of bytes from the first, at most length. Before anything is read:
+ *   3   answer_length is below 11; this one writes nothing at all, to no list
+ * In the header:
+ *   18  the file does not begin with the three bytes aag: place 0
+ *   18  no space stands before one of the first five counts, neither a space nor a newline after A, B, C or J, or no newline after F: that byte. A carriage
+ *       return is no newline
+ *   10, 11, 21, 12  of a count, at its first byte: no digit stands there; it has two or more digits and begins with 0; it does not fit 64 bits; it is
+ *       over its limit, which is 1,048,575 for M, O, B, C, J and F, M for I, M-I for L, M-I-L for A
+ * At the byte after the header's newline:
+ *   3   inputs is shorter than I, states, nexts or resets than L, gates than 3A, or sizes than J
+ * In the lines that follow, as they come:
+ *   10, 11, 21, 13, 14, 12  of a code that is defined, an input's, a latch's state or a gate's output, at its first byte: the first of these that applies,
+ *       as above, and 13 for the code 0, 14 for an odd one, and then 12 for one over 2M+1
+ *   10, 11, 21, 12  of another literal or a reset, whose limit is 2M+1, or of a justice size, whose limit is 1,048,575, at its first byte
+ *   22  a reset that was read without one of these four is not 0, 1 or the latch's own literal: its first byte, whatever follows it
+ *   18  no space stands after a latch's state, a gate's output or its first input, no newline ends the line, or after a latch's next state neither a space nor
+ *       a newline stands: that byte
+ * At the byte after the last justice size (where J is 0: after the last constraint):
+ *   1   R is over 1,048,575, the sizes included
+ *   3   roots is shorter than R.
+ * A refusal, but for that of a short answer list, leaves every word of inputs, states, nexts, resets, gates, sizes and roots 0, however long the list: 3 for
+ * a short list too.
+ *
+ * Time: in proportion to the bytes that are read; a refusal's in proportion to the lists too, which it clears. */
+uint32_t imdagluz_read_aag(const uint8_t *bytes, size_t length,
+                           uint32_t *inputs, size_t inputs_length,
+                           uint32_t *states, size_t states_length,
+                           uint32_t *nexts, size_t nexts_length,
+                           uint32_t *resets, size_t resets_length,
+                           uint32_t *gates, size_t gates_length,
+                           uint32_t *sizes, size_t sizes_length,
+                           uint32_t *roots, size_t roots_length,
+                           uint64_t *answer, size_t answer_length);
+
+/* Writes an ordered circuit as a text AIGER file. What is read and what is written to, the answer and the refusals are those of imdagluz_write_aig, word for
+ * word; the file is another.
+ *
+ * Answers 0 on success. Then out holds
+ *   the header with M = V, in which of the optional counts B C J F those past the last that is not 0 are left out; a line for each input, 2, 4, .., 2I; a line
+ *   for each latch, with its state, which goes on from there, its next state and, where the reset is not 0, the reset; the root lines in the file's order
+ *   (outputs, bad states, constraints, justice sizes, justice literals, fairness); a line for each gate, with its code 2(I+L+1+k) for gate k, counted from 0,
+ *   its larger and its smaller input. One space stands between two numbers, and there are no symbols and no comment.
+ * The same circuit always gives the same bytes. imdagluz_read_aag reads them to the last one, as the lists that imdagluz_expand makes of the circuit, with its
+ * next states, resets, counts, sizes and roots. A file has at most IMDAGLUZ_TEXT_BYTES(V, R, J) bytes, and so never more than 41,943,076: where so many are
+ * lent, 3 is not given for out, and nothing is measured first.
+ *
+ * Time: in proportion to the lists, the number of inputs and the bytes written. */
+uint32_t imdagluz_write_aag(uint32_t inputs, const uint32_t *counts, size_t counts_length,
                             const uint32_t *nexts, size_t nexts_length,
                             const uint32_t *resets, size_t resets_length,
                             const uint32_t *gates, size_t gates_length,

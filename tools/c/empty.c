@@ -27,6 +27,21 @@ static uint32_t renumber(int empty, uint32_t *at, uint32_t answer[3]) {
 /* A success, or the refusal for a list that has to be there. */
 static uint32_t expected(int empty) { return empty == COUNTS ? 2 : empty == MAP || empty == SCRATCH || empty == ANSWER ? 3 : 0; }
 
+/* Texts, read and written: lists, bytes and answer words of the length 0 are at these pointers. */
+static int text_form(uint32_t *at, uint8_t *bytes, uint64_t *word) {
+    static const uint8_t empty_text[] = "aag 0 0 0 0 0\n";
+    uint32_t none[5] = {0};
+    uint64_t words[11];
+    uint8_t text[14];
+    int good = imdagluz_read_aag(empty_text, 14, at, 0, at, 0, at, 0, at, 0, at, 0, at, 0, at, 0, words, 11) == 0 && words[0] == 14;
+    good &= imdagluz_read_aag(bytes, 0, at, 0, at, 0, at, 0, at, 0, at, 0, at, 0, at, 0, words, 11) == 18 && words[0] == 0;
+    good &= imdagluz_read_aag(empty_text, 14, at, 0, at, 0, at, 0, at, 0, at, 0, at, 0, at, 0, word, 0) == 3;
+    good &= imdagluz_write_aag(0, none, 5, at, 0, at, 0, at, 0, at, 0, at, 0, bytes, 0, words, 2) == 3 && words[0] == 0 && words[1] == 14;
+    good &= imdagluz_write_aag(0, none, 5, at, 0, at, 0, at, 0, at, 0, at, 0, text, 14, words, 2) == 0 && memcmp(text, empty_text, 14) == 0;
+    good &= imdagluz_write_aag(0, at, 0, at, 0, at, 0, at, 0, at, 0, at, 0, bytes, 0, words, 2) == 2 && words[0] == 0 && words[1] == 0;
+    return good && imdagluz_write_aag(0, none, 5, at, 0, at, 0, at, 0, at, 0, at, 0, bytes, 0, word, 0) == 3;
+}
+
 int main(void) {
     int good = 1;
     uint32_t answer[3], *null_words = NULL;
@@ -53,6 +68,7 @@ int main(void) {
         good &= imdagluz_write_aig(0, at, 0, at, 0, at, 0, at, 0, at, 0, at, 0, bytes, 0, words, 2) == 2 && words[0] == 0 && words[1] == 0;
         good &= imdagluz_write_aig(0, none, 5, at, 0, at, 0, at, 0, at, 0, at, 0, bytes, 0, null ? (uint64_t *)NULL : word, 0) == 3 && word[0] == HELD;
         good &= one[0] == HELD && byte[0] == HELD;
+        good &= text_form(at, null ? null_bytes : byte, null ? (uint64_t *)NULL : word) && one[0] == HELD && byte[0] == HELD && word[0] == HELD;
         good &= imdagluz_expand(0, 0, at, 0, at, 0, at, 0, at, 0) == 0 && imdagluz_expand(1, 0, at, 0, at, 0, at, 0, at, 0) == 3 && one[0] == HELD;
     }
     char version[40];

@@ -1,26 +1,28 @@
-/* Has imdagluz_write_aig write and refuse circuits as the header says: each refusal alone and each two together, the empty circuit, resets of each kind, every
- * pattern of optional counts, deltas about the borders of their lengths, a circuit of the limits, and 20,000 random ones. What is written is compared with an
- * independent spelling and read back with imdagluz_read_aig; with no byte and with a byte too few it is measured. Bytes and words past those lent, and those
- * lent past what is written, are compared too. Exit status: 0 when all are as promised and the line that says so was written, else 1. */
+/* Has imdagluz_write_aig and then imdagluz_write_aag write and refuse circuits as the header says: each refusal alone and each two together, the empty
+ * circuit, resets of each kind, every pattern of optional counts, deltas about the borders of their lengths, a circuit of the limits, and random ones,
+ * 20,000 as binary files and 5,000 as texts. What is written is compared with an independent spelling and read back with imdagluz_read_aig or
+ * imdagluz_read_aag; with no byte and with a byte too few it is measured. Bytes and words past those lent, and those lent past what is written, are
+ * compared too. Exit status: 0 when all are as promised and the line that says so was written, else 1. */
 #include "imdagluz.h"
 #include <inttypes.h>
 #include <stdio.h>
 #include <string.h>
 
-enum { LIST = IMDAGLUZ_LIST, PAST = 16, HELD = 165, LENT = 3, WORDS = 2, MOST = 76 + 32 * LIST };
+enum { LIST = IMDAGLUZ_LIST, PAST = 16, HELD = 165, LENT = 3, WORDS = 2, MOST = 76 + 40 * LIST };
 
 struct list { uint32_t *words; size_t length; };
 struct circuit { uint32_t inputs; struct list counts, nexts, resets, gates, sizes, roots; };
 
 static uint32_t counts[8], nexts[LIST + 1], resets[LIST + 1], gates[2 * LIST + 2], sizes[LIST + 1], roots[LIST + 1];
-static uint32_t nexts_back[LIST], resets_back[LIST], gates_back[2 * LIST], sizes_back[LIST], roots_back[LIST];
+static uint32_t nexts_back[LIST], resets_back[LIST], gates_back[3 * LIST], sizes_back[LIST], roots_back[LIST];
+static uint32_t inputs_back[LIST], states_back[LIST];
 static uint8_t out[MOST + 2 * PAST], spelt[MOST];
 static uint64_t answer[LENT + PAST];
 static struct circuit given;
-static int cases, good = 1;
+static int cases, good = 1, text;
 
 static void failed(const char *what) {
-    printf("%s: not as promised\n", what);
+    printf("%s: not as promised%s\n", what, text ? " as a text" : "");
     good = 0;
 }
 
@@ -28,9 +30,9 @@ static void failed(const char *what) {
 static uint32_t call(size_t bytes, size_t words) {
     memset(out, HELD, bytes + PAST);
     for (int i = 0; i < LENT + PAST; i++) answer[i] = HELD;
-    return imdagluz_write_aig(given.inputs, given.counts.words, given.counts.length, given.nexts.words, given.nexts.length, given.resets.words,
-                              given.resets.length, given.gates.words, given.gates.length, given.sizes.words, given.sizes.length, given.roots.words,
-                              given.roots.length, out, bytes, answer, words);
+    return (text ? imdagluz_write_aag : imdagluz_write_aig)(
+        given.inputs, given.counts.words, given.counts.length, given.nexts.words, given.nexts.length, given.resets.words, given.resets.length,
+        given.gates.words, given.gates.length, given.sizes.words, given.sizes.length, given.roots.words, given.roots.length, out, bytes, answer, words);
 }
 
 /* Whether the bytes from n to the end of the room past those lent are as they were, and the answer words from n on. */
@@ -55,8 +57,9 @@ static void refuses(const char *what, size_t bytes, uint32_t number, uint64_t li
 /* The independent spelling of the circuit. */
 static size_t put_line(size_t at, uint32_t v) { return at + (size_t)sprintf((char *)spelt + at, "%" PRIu32 "\n", v); }
 
-/* A latch's line: what it has for a first value of 0 is nothing. */
-static size_t put_latch(size_t at, uint32_t next, uint32_t reset) {
+/* A latch's line: a text has the state before the next state, and what is there for a first value of 0 is nothing. */
+static size_t put_latch(size_t at, uint32_t state, uint32_t next, uint32_t reset) {
+    if (text) at += (size_t)sprintf((char *)spelt + at, "%" PRIu32 " ", state);
     if (reset == 0) return put_line(at, next);
     return at + (size_t)sprintf((char *)spelt + at, "%" PRIu32 " %" PRIu32 "\n", next, reset);
 }
@@ -67,24 +70,29 @@ static size_t put_delta(size_t at, uint32_t d) {
     return at;
 }
 
+/* A gate: in a text its line, else the two deltas. */
+static size_t put_gate(size_t at, uint32_t code, uint32_t larger, uint32_t smaller) {
+    if (text) return at + (size_t)sprintf((char *)spelt + at, "%" PRIu32 " %" PRIu32 " %" PRIu32 "\n", code, larger, smaller);
+    return put_delta(put_delta(at, code - larger), larger - smaller);
+}
+
 static size_t spell(void) {
     const uint32_t *c = given.counts.words, n = given.inputs + (uint32_t)given.nexts.length, g = (uint32_t)given.gates.length / 2;
     uint32_t optional[4] = {c[1], c[2], (uint32_t)given.sizes.length, c[3]};
     int kept = 4;
     while (kept > 0 && optional[kept - 1] == 0) kept--;
-    size_t at = (size_t)sprintf((char *)spelt, "aig %" PRIu32 " %" PRIu32 " %zu %" PRIu32 " %" PRIu32, n + g, given.inputs, given.nexts.length, c[0], g);
+    size_t at = (size_t)sprintf((char *)spelt, "%s %" PRIu32 " %" PRIu32 " %zu %" PRIu32 " %" PRIu32, text ? "aag" : "aig", n + g, given.inputs,
+                                given.nexts.length, c[0], g);
     for (int i = 0; i < kept; i++) at += (size_t)sprintf((char *)spelt + at, " %" PRIu32, optional[i]);
     spelt[at++] = '\n';
-    for (size_t i = 0; i < given.nexts.length; i++) at = put_latch(at, given.nexts.words[i], given.resets.words[i]);
+    for (uint32_t i = 0; text && i < given.inputs; i++) at = put_line(at, 2 * (i + 1));
+    for (size_t i = 0; i < given.nexts.length; i++) at = put_latch(at, (uint32_t)(2 * (given.inputs + 1 + i)), given.nexts.words[i], given.resets.words[i]);
     size_t fair = (size_t)c[0] + c[1] + c[2], justice = fair + c[3];
     for (size_t i = 0; i < fair; i++) at = put_line(at, given.roots.words[i]);
     for (size_t i = 0; i < given.sizes.length; i++) at = put_line(at, given.sizes.words[i]);
     for (size_t i = justice; i < justice + c[4]; i++) at = put_line(at, given.roots.words[i]);
     for (size_t i = fair; i < justice; i++) at = put_line(at, given.roots.words[i]);
-    for (uint32_t k = 0; k < g; k++) {
-        uint32_t larger = given.gates.words[2 * k], smaller = given.gates.words[2 * k + 1];
-        at = put_delta(put_delta(at, 2 * (n + 1 + k) - larger), larger - smaller);
-    }
+    for (uint32_t k = 0; k < g; k++) at = put_gate(at, 2 * (n + 1 + k), given.gates.words[2 * k], given.gates.words[2 * k + 1]);
     return at;
 }
 
@@ -92,14 +100,37 @@ static int same_list(struct list list, const uint32_t *words, uint64_t length) {
     return list.length == length && memcmp(list.words, words, length * sizeof *words) == 0;
 }
 
+/* Whether a list counts on by two from a first code, every so many words. */
+static int counts_on(const uint32_t *words, size_t length, size_t step, uint32_t first) {
+    for (size_t i = 0; i < length; i++)
+        if (words[step * i] != first + 2 * i) return 0;
+    return 1;
+}
+
+/* Whether a text is read as the circuit: its inputs, states and outputs count on, and the gates have the inputs that the circuit has. */
+static int reads_text(size_t length, uint64_t read[11]) {
+    if (imdagluz_read_aag(out, length, inputs_back, LIST, states_back, LIST, nexts_back, LIST, resets_back, LIST, gates_back, 3 * LIST, sizes_back, LIST,
+                          roots_back, LIST, read, 11) != 0) return 0;
+    uint32_t first = 2 * (uint32_t)(read[2] + 1);
+    int same = counts_on(inputs_back, read[2], 1, 2) && counts_on(states_back, read[3], 1, first)
+        && counts_on(gates_back, read[4], 3, first + 2 * (uint32_t)read[3]) && given.gates.length == 2 * read[4];
+    for (size_t k = 0; same && k < read[4]; k++) same = memcmp(gates_back + 3 * k + 1, given.gates.words + 2 * k, 2 * sizeof *gates_back) == 0;
+    return same;
+}
+
+static int reads_binary(size_t length, uint64_t read[11]) {
+    return imdagluz_read_aig(out, length, nexts_back, LIST, resets_back, LIST, gates_back, 2 * LIST, sizes_back, LIST, roots_back, LIST, read, 11) == 0
+        && same_list(given.gates, gates_back, 2 * read[4]);
+}
+
 /* Whether the first bytes of out are read as the circuit, to the last of them. */
 static int reads_back(size_t length) {
     uint64_t read[11];
     uint32_t back[5];
-    if (imdagluz_read_aig(out, length, nexts_back, LIST, resets_back, LIST, gates_back, 2 * LIST, sizes_back, LIST, roots_back, LIST, read, 11) != 0) return 0;
+    if (!(text ? reads_text : reads_binary)(length, read)) return 0;
     for (int i = 0; i < 5; i++) back[i] = (uint32_t)read[5 + i];
-    return read[0] == length && read[2] == given.inputs && same_list(given.nexts, nexts_back, read[3]) && same_list(given.resets, resets_back, read[3])
-        && same_list(given.gates, gates_back, 2 * read[4]) && same_list(given.counts, back, 5) && same_list(given.sizes, sizes_back, read[10])
+    return read[0] == length && read[1] == read[2] + read[3] + read[4] && read[2] == given.inputs && same_list(given.nexts, nexts_back, read[3])
+        && same_list(given.resets, resets_back, read[3]) && same_list(given.counts, back, 5) && same_list(given.sizes, sizes_back, read[10])
         && same_list(given.roots, roots_back, read[5] + read[6] + read[7] + read[8] + read[9]);
 }
 
@@ -107,8 +138,9 @@ static int reads_back(size_t length) {
  * its size has, from where on nothing is measured. */
 static void writes(const char *what) {
     size_t length = spell();
-    size_t most = IMDAGLUZ_FILE_BYTES(given.inputs + given.nexts.length + given.gates.length / 2, given.nexts.length, given.roots.length,
-                                      given.sizes.length);
+    size_t top = given.inputs + given.nexts.length + given.gates.length / 2;
+    size_t most = text ? IMDAGLUZ_TEXT_BYTES(top, given.roots.length, given.sizes.length)
+                       : IMDAGLUZ_FILE_BYTES(top, given.nexts.length, given.roots.length, given.sizes.length);
     refuses(what, 0, IMDAGLUZ_SHORT_BUFFER, 0, length);
     refuses(what, length - 1, IMDAGLUZ_SHORT_BUFFER, 0, length);
     if (length > most) failed(what);
@@ -136,7 +168,8 @@ static void nothing(uint32_t inputs) {
     given.roots = (struct list){roots, 0};
 }
 
-/* Two inputs, a latch that starts at either and one that starts at 1, two gates, a root of each kind and a second justice literal of the one set: 51 bytes. */
+/* Two inputs, a latch that starts at either and one that starts at 1, two gates, a root of each kind and a second justice literal of the one set: 51 bytes,
+ * and as a text 69. */
 static void small(void) {
     static const uint32_t c[] = {1, 1, 1, 1, 2}, n[] = {10, 3}, s[] = {6, 1}, g[] = {6, 2, 8, 3}, z[] = {2}, r[] = {12, 9, 3, 7, 6, 11};
     given.inputs = 2;
@@ -217,10 +250,11 @@ static const struct wrong { const char *what; void (*apply)(void); uint32_t numb
     {"a gate that is its own negated input", gate_negated, 23, 12},
     {"inputs the wrong way round", gate_turned, 23, 12},
 };
-enum { WRONGS = sizeof wrongs / sizeof wrongs[0], NEEDED = 51 };
+enum { WRONGS = sizeof wrongs / sizeof wrongs[0] };
 
 /* Each alone and each two together, with bytes enough and a byte too few: whichever is tested first is told. */
 static void refusals(void) {
+    const size_t enough = text ? 69 : 51;
     for (int i = 0; i < WRONGS; i++)
         for (int j = i; j < WRONGS; j++) {
             char what[100];
@@ -228,20 +262,20 @@ static void refusals(void) {
             small();
             if (j != i) wrongs[j].apply();
             wrongs[i].apply();
-            refuses(what, NEEDED, wrongs[i].number, wrongs[i].literal, 0);
-            refuses(what, NEEDED - 1, wrongs[i].number, wrongs[i].literal, 0);
+            refuses(what, enough, wrongs[i].number, wrongs[i].literal, 0);
+            refuses(what, enough - 1, wrongs[i].number, wrongs[i].literal, 0);
             /* one answer word and none come before all else, and nothing is written */
             for (size_t words = 0; words < WORDS; words++) {
-                if (call(NEEDED, words) != 3 || !bytes_kept(0, NEEDED) || !words_kept(0)) failed(what);
+                if (call(enough, words) != 3 || !bytes_kept(0, enough) || !words_kept(0)) failed(what);
                 cases++;
             }
         }
     small();
     for (size_t words = 0; words < WORDS; words++) {
-        if (call(NEEDED, words) != 3 || !bytes_kept(0, NEEDED) || !words_kept(0)) failed("too few answer words");
+        if (call(enough, words) != 3 || !bytes_kept(0, enough) || !words_kept(0)) failed("too few answer words");
         cases++;
     }
-    for (size_t bytes = 0; bytes < NEEDED; bytes++) refuses("bytes too few", bytes, 3, 0, NEEDED);
+    for (size_t bytes = 0; bytes < enough; bytes++) refuses("bytes too few", bytes, 3, 0, enough);
     writes("the small circuit");
 }
 
@@ -272,6 +306,8 @@ static void deltas(void) {
     static const uint32_t ds[] = {1, 2, 126, 127, 128, 129, 16382, 16383, 16384, 16385, 2097148, 2097149, 2097150};
     for (size_t i = 0; i < sizeof ds / sizeof ds[0]; i++) {
         uint32_t d = ds[i], code = d + d % 2;
+        /* a text with so many inputs takes long, and has no deltas */
+        if (text && d > 20000) break;
         nothing(code / 2 - 1);
         given.gates.length = 2;
         gates[0] = code - d, gates[1] = 0;
@@ -305,8 +341,8 @@ static uint32_t below(uint32_t n) {
     return (uint32_t)((state >> 16) % n);
 }
 
-static void random_circuits(void) {
-    for (int n = 0; n < 20000; n++) {
+static void random_circuits(int many_circuits) {
+    for (int n = 0; n < many_circuits; n++) {
         static const uint32_t many[] = {1, 3, 70, 300, 9000};
         nothing(below(many[below(5)]));
         given.nexts.length = given.resets.length = below(4), given.gates.length = 2 * below(9), given.sizes.length = below(4);
@@ -322,14 +358,16 @@ static void random_circuits(void) {
 }
 
 int main(void) {
-    refusals();
-    first_values();
-    nothing(0);
-    writes("the empty circuit");
-    patterns();
-    deltas();
-    limits();
-    random_circuits();
+    for (text = 0; text < 2; text++) {
+        refusals();
+        first_values();
+        nothing(0);
+        writes("the empty circuit");
+        patterns();
+        deltas();
+        limits();
+        random_circuits(text ? 5000 : 20000);
+    }
     if (good) printf("%d calls of writing as promised\n", cases);
     if (fflush(stdout) != 0 || ferror(stdout)) {
         fputs("writing: standard output can't be written\n", stderr);

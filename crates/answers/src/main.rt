@@ -35,13 +35,23 @@ fn lines(s: &[u8]) {
     }
 }
 
-// The first letter tells a file, a circuit that is written and a file that is written again, and the second a sheet, from the tokens.
+// The first letter tells a file, a text, a circuit that is written and a file that is written again, and the second a sheet, from the tokens.
 fn answer(line: &[u8]) {
     match fields::byte(line, 0) {
         b'f' => files::answer(line),
-        b'w' => writings::answer(line),
+        b't' => of_text(line),
+        b'w' => writings::answer(line, false),
         b'a' => writings::again(line),
         _ => other(line),
+    }
+}
+
+// `textwrite` has a letter where `text` ends.
+fn of_text(line: &[u8]) {
+    if fields::byte(line, 4) == b'w' {
+        writings::answer(line, true);
+    } else {
+        files::text(line);
     }
 }
 

@@ -1,5 +1,5 @@
-// Answers on standard output: `V value used`, `P first second used`, `R number place`, `F number words`, with a file's lists, `W number words bytes`; and any
-// text.
+// Answers on standard output: `V value used`, `P first second used`, `R number place`, `F number words` and `T number words`, with a file's lists,
+// `W number words bytes`; and any text.
 use libc::STDOUT_FILENO;
 use token::PairToken;
 use token::Reason;
@@ -68,9 +68,9 @@ fn digits(b: u8) {
     io::print_hex(STDOUT_FILENO, b as u64, 2);
 }
 
-// A file's number and words.
-pub fn file(n: u32, words: &[u64]) {
-    text(b"F ");
+// A letter and a space, and a file's number and words.
+pub fn file(letter: &[u8], n: u32, words: &[u64]) {
+    text(letter);
     number(n as u64);
     let mut i = 0;
     while i < words.len() {

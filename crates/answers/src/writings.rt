@@ -1,26 +1,27 @@
 // Questions about writing: `write`, the bytes that are lent, the number of inputs, and behind K, N, T, G, S and R the counts, next states, resets, gates, justice sizes
-// and roots; or `again` and the bytes of a file, which is read and written into as many bytes. The answer is `W`, the number and the two words of
-// `file_words::write`, and every lent byte, which is 165 where nothing is written. A file that is refused is answered `R`, the number and the place.
+// and roots; `textwrite` and the same, for a text; or `again` and the bytes of a binary file, which is read and written into as many bytes. The answer is `W`, the
+// number and the two words of `file_words::write` or `file_words::write_text`, and every lent byte, which is 165 where nothing is written. A file that is
+// refused is answered `R`, the number and the place.
 ghost use Prim.Native.Nat.{_<_};
 ghost use Rattle.io.specs.Counts.{Counts};
 use crate::fields;
 use crate::say;
 
-pub fn answer(line: &[u8]) {
+pub fn answer(line: &[u8], as_text: bool) {
     let mut counts = [0u32; 8];
     let mut nexts = [0u32; 16];
     let k = fields::list(line, b'K', &mut counts);
     let n = fields::list(line, b'N', &mut nexts);
-    with_resets(line, &counts[..k], &nexts[..n]);
+    with_resets(line, as_text, &counts[..k], &nexts[..n]);
 }
 
-fn with_resets(line: &[u8], counts: &[u32], nexts: &[u32]) {
+fn with_resets(line: &[u8], as_text: bool, counts: &[u32], nexts: &[u32]) {
     let mut resets = [0u32; 16];
     let t = fields::list(line, b'T', &mut resets);
-    with_gates(line, counts, nexts, &resets[..t]);
+    with_gates(line, as_text, counts, nexts, &resets[..t]);
 }
 
-fn with_gates(line: &[u8], counts: &[u32], nexts: &[u32], resets: &[u32]) {
+fn with_gates(line: &[u8], as_text: bool, counts: &[u32], nexts: &[u32], resets: &[u32]) {
     let mut gates = [0u32; 128];
     let mut sizes = [0u32; 8];
     let mut roots = [0u32; 32];
@@ -30,6 +31,7 @@ fn with_gates(line: &[u8], counts: &[u32], nexts: &[u32], resets: &[u32]) {
     let room = fields::number(line, fields::after_word(line));
     let inputs = fields::number(line, room.next);
     lent(
+        as_text,
         room.value as usize,
         (inputs.value % 4294967296) as u32,
         counts,
@@ -43,6 +45,7 @@ fn with_gates(line: &[u8], counts: &[u32], nexts: &[u32], resets: &[u32]) {
 
 // Writes the circuit into so many bytes.
 fn lent(
+    as_text: bool,
     room: usize,
     inputs: u32,
     counts: &[u32],
@@ -54,19 +57,32 @@ fn lent(
 ) {
     let mut out = [165u8; 256];
     let n = bytes_front(room, &out);
-    written(
-        inputs,
-        counts,
-        nexts,
-        resets,
-        gates,
-        sizes,
-        roots,
-        &mut out[..n],
-    );
+    if as_text {
+        text_written(
+            inputs,
+            counts,
+            nexts,
+            resets,
+            gates,
+            sizes,
+            roots,
+            &mut out[..n],
+        );
+    } else {
+        written(
+            inputs,
+            counts,
+            nexts,
+            resets,
+            gates,
+            sizes,
+            roots,
+            &mut out[..n],
+        );
+    }
 }
 
-// Writes the circuit, and answers with what is written.
+// Writes the circuit as a binary file, and answers with what is written.
 fn written(
     inputs: u32,
     counts: &[u32],
@@ -89,6 +105,36 @@ fn written(
         out,
         &mut words,
     );
+    told(number, words, out);
+}
+
+// Writes the circuit as a text, and answers with what is written.
+fn text_written(
+    inputs: u32,
+    counts: &[u32],
+    nexts: &[u32],
+    resets: &[u32],
+    gates: &[u32],
+    sizes: &[u32],
+    roots: &[u32],
+    out: &mut [u8],
+) {
+    let mut words = [0u64; 2];
+    let number = file_words::write_text(
+        inputs,
+        counts,
+        nexts,
+        resets,
+        gates,
+        sizes,
+        roots,
+        out,
+        &mut words,
+    );
+    told(number, words, out);
+}
+
+fn told(number: u32, words: [u64; 2], out: &[u8]) {
     say::written(number, words);
     say::hex(out);
     say::text(b"\n");
@@ -146,6 +192,7 @@ fn fronts(
     let s = front(count(words, 10) as usize, sizes);
     let r = front(all as usize, roots);
     lent(
+        false,
         room,
         count(words, 2),
         &counts,

@@ -1,6 +1,6 @@
 -- What a circuit that passed its checks gives to its writer: sums that fit, gates in order, its header; and each end of writing. Assumes nothing.
 use Prim.Native.Nat.{ℕ, _+_, _*_, _/_, _≤_, _<_}
-use mathlib.Core.Path.{_≡_, refl, sym, ap, ap₂, _∙_, subst⁻¹}
+use mathlib.Core.Path.{_≡_, sym, ap, ap₂, _∙_, subst⁻¹}
 use mathlib.Core.List.{List, [], _++_}
 use native.Mathlib.Omega.{arith}
 use lib.ListN.{length}
@@ -54,32 +54,29 @@ module _ (w : Words) (g : Given w) where
       → partsOf h (w .nexts) (w .resets) (w .sizes) (w .roots) (h .inputs + length (w .nexts)) (pairsOf (w .gates)) ≡ fileOf (fileIn w)
   its-parts h e = ap (λ (x : Header). partsOf x (w .nexts) (w .resets) (w .sizes) (w .roots) (x .inputs + length (w .nexts)) (pairsOf (w .gates))) e
 
+  -- and its bytes end at a place of 64 bits
+  pub file-ends : length (fileOf (fileIn w)) ≤ last
+  file-ends =
+      file-short (headerFor (fileIn w)) (w .nexts) (w .resets) (w .sizes) (w .roots) (w .inputs + length (w .nexts)) (pairsOf (w .gates))
+      (omega (arith, few .0)) (g .sets) (g .ordered .few) (omega (arith, few .0, pairs-length (w .gates)))
+
+-- a file of either form, and its parts in a row as they are put
+module _ {file parts : List ℕ} (same : parts ≡ file) where
   -- the place after all of it is its length
-  pub measured : (h : Header) → h ≡ headerFor (fileIn w) → (n : ℕ)
-      → n ≡ further 0 (length (partsOf h (w .nexts) (w .resets) (w .sizes) (w .roots) (h .inputs + length (w .nexts)) (pairsOf (w .gates))))
-      → n ≡ length (fileOf (fileIn w))
-  measured h e n m =
-      let whole = its-parts h e in
-      let short = file-short (headerFor (fileIn w)) (w .nexts) (w .resets) (w .sizes) (w .roots) (w .inputs + length (w .nexts)) (pairsOf (w .gates))
-      (omega (arith, few .0)) (g .sets) (g .ordered .few) (omega (arith, few .0, pairs-length (w .gates))) in
-      m ∙ ap (λ (l : List ℕ). further 0 (length l)) whole ∙ omega (arith, short)
+  pub measured : length file ≤ last → (n : ℕ) → n ≡ further 0 (length parts) → n ≡ length file
+  measured ends n m = m ∙ ap (λ (l : List ℕ). further 0 (length l)) same ∙ omega (arith, ends)
 
   -- nothing is put into no bytes
-  pub none-put : (h : Header) (out : List ℕ)
-      → out ≡ putAll [] 0 (partsOf h (w .nexts) (w .resets) (w .sizes) (w .roots) (h .inputs + length (w .nexts)) (pairsOf (w .gates))) → out ≡ []
-  none-put h out e = e ∙ put-all-past [] 0 (partsOf h (w .nexts) (w .resets) (w .sizes) (w .roots) (h .inputs + length (w .nexts)) (pairsOf (w .gates))) (omega arith)
+  pub none-put : (out : List ℕ) → out ≡ putAll [] 0 parts → out ≡ []
+  none-put out e = e ∙ put-all-past [] 0 parts (omega arith)
 
-  pub too-short : (out : List ℕ) (n : ℕ) → n ≡ length (fileOf (fileIn w)) → length out < n
-      → wrote (Unwritten Short n) out ≡ writtenTo (fileOf (fileIn w)) out
-  too-short out n e h = rw (lt-ltb (length out) (length (fileOf (fileIn w))) (omega (arith, e, h))) (ap (λ (k : ℕ). wrote (Unwritten Short k) out) e)
+  pub too-short : (out : List ℕ) (n : ℕ) → n ≡ length file → length out < n → wrote (Unwritten Short n) out ≡ writtenTo file out
+  too-short out n e h = rw (lt-ltb (length out) (length file) (omega (arith, e, h))) (ap (λ (k : ℕ). wrote (Unwritten Short k) out) e)
 
   -- the bytes that fit are put, after nothing was
-  pub whole : (h : Header) → h ≡ headerFor (fileIn w) → (none out out′ : List ℕ) (n : ℕ) → n ≡ length (fileOf (fileIn w)) → n ≤ length out → none ≡ []
-      → out′ ≡ putAll (none ++ out) 0 (partsOf h (w .nexts) (w .resets) (w .sizes) (w .roots) (h .inputs + length (w .nexts)) (pairsOf (w .gates)))
-      → wrote (Written n) out′ ≡ writtenTo (fileOf (fileIn w)) out
-  whole h e none out out′ n m fits nothing put =
-      let parts = partsOf h (w .nexts) (w .resets) (w .sizes) (w .roots) (h .inputs + length (w .nexts)) (pairsOf (w .gates)) in
-      let there : out′ ≡ onto (fileOf (fileIn w)) out
-      = put ∙ ap (λ (x : List ℕ). putAll (x ++ out) 0 parts) nothing ∙ ap (putAll out 0) (its-parts h e)
-      ∙ put-onto out (fileOf (fileIn w)) (omega (arith, m, fits)) in
-      rw (le-ltb (length out) (length (fileOf (fileIn w))) (omega (arith, m, fits))) (ap₂ (λ (k : ℕ) (l : List ℕ). wrote (Written k) l) m there)
+  pub whole : (none out out′ : List ℕ) (n : ℕ) → n ≡ length file → n ≤ length out → none ≡ [] → out′ ≡ putAll (none ++ out) 0 parts
+      → wrote (Written n) out′ ≡ writtenTo file out
+  whole none out out′ n m fits nothing put =
+      let there : out′ ≡ onto file out
+      = put ∙ ap (λ (x : List ℕ). putAll (x ++ out) 0 parts) nothing ∙ ap (putAll out 0) same ∙ put-onto out file (omega (arith, m, fits)) in
+      rw (le-ltb (length out) (length file) (omega (arith, m, fits))) (ap₂ (λ (k : ℕ) (l : List ℕ). wrote (Written k) l) m there)

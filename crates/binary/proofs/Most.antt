@@ -15,6 +15,7 @@ use Rattle.circuit.specs.Ordered.{sourcesOf, noPair}
 use Rattle.circuit.specs.Outcome.{total, pairsOf}
 use Rattle.circuit.specs.Claims.{AllWithin}
 use Rattle.lines.specs.declared.Header.{Header}
+use Rattle.lines.specs.Lines.{tagOf}
 use Rattle.lines.specs.Sections.{rootsOf}
 use Rattle.sections.specs.Bytes.{rowBytes, lineBytes, linesBytes, countBytes, countsBytes, keptBefore, upToLast, optional, countsOf, latchBytes, latchesBytes}
 use Rattle.sections.specs.Bytes.{afterTag, headerBytes, rootsBytes}
@@ -62,20 +63,24 @@ groups-below (suc j) (suc k) d h = go (ltb d 128) (groups-below j k (d / 128) (o
     go true i = omega arith
     go false i = omega arith
 
-line-few : (v : ℕ) → v < 10000000 → length (lineBytes v) ≤ 8
-unfolding lineBytes digitsOf
-line-few v h = omega (arith, length-append (digitsUpTo 19 v) (10 ∷ []), digits-below 6 19 v h)
+pub seven-digits : (v : ℕ) → v < 10000000 → length (digitsOf v) ≤ 7
+unfolding digitsOf
+seven-digits v h = digits-below 6 19 v h
 
-count-few : (v : ℕ) → v < 10000000 → length (countBytes v) ≤ 8
-unfolding countBytes digitsOf
-count-few v h = omega (arith, digits-below 6 19 v h)
+pub line-few : (v : ℕ) → v < 10000000 → length (lineBytes v) ≤ 8
+unfolding lineBytes
+line-few v h = omega (arith, length-append (digitsOf v) (10 ∷ []), seven-digits v h)
+
+pub count-few : (v : ℕ) → v < 10000000 → length (countBytes v) ≤ 8
+unfolding countBytes
+count-few v h = omega (arith, seven-digits v h)
 
 pub delta-few : (d : ℕ) → d < 2097152 → length (shortest d) ≤ 3
 unfolding shortest
 delta-few d h = groups-below 2 7 d h
 
 -- each word of a list has seven digits or fewer
-abbrev Below : List ℕ → Type 0
+abbrev pub Below : List ℕ → Type 0
 Below [] = Unit {0}
 Below (v ∷ vs) = (v < 10000000) × Below vs
 
@@ -89,7 +94,7 @@ below-drop zero vs h = h
 below-drop (suc n) [] h = tt
 below-drop (suc n) (v ∷ vs) h = below-drop n vs (h .1)
 
-row-few : (each : ℕ → List ℕ) → ((v : ℕ) → v < 10000000 → length (each v) ≤ 8) → (vs : List ℕ) → Below vs → length (rowBytes each vs) ≤ 8 * length vs
+pub row-few : (each : ℕ → List ℕ) → ((v : ℕ) → v < 10000000 → length (each v) ≤ 8) → (vs : List ℕ) → Below vs → length (rowBytes each vs) ≤ 8 * length vs
 row-few each few [] h = omega arith
 row-few each few (v ∷ vs) h = omega (arith, length-append (each v) (rowBytes each vs), few v (h .0), row-few each few vs (h .1))
 
@@ -106,18 +111,20 @@ below-kept (v ∷ vs) h = go (upToLast vs) (below-kept vs (h .1))
     go [] i = zeros (eqb v 0)
     go (w ∷ ws) i = (h .0, i)
 
-header-few : (h : Header) → Below (countsOf h) → length (headerBytes tag h) ≤ 76
+-- the header, behind the tag of either form
+pub header-few : (form : ℕ) (h : Header) → Below (countsOf h) → length (headerBytes (tagOf form) h) ≤ 76
 unfolding afterTag
-header-few h b =
+header-few form h b =
     omega (
       arith,
-      length-append tag (countsBytes (countsOf h) ++ (10 ∷ [])),
+      length-append (tagOf form) (countsBytes (countsOf h) ++ (10 ∷ [])),
       length-append (countsBytes (countsOf h)) (10 ∷ []),
       row-few countBytes count-few (countsOf h) b,
       kept-few h,
     )
 
-roots-few : (h : Header) (sizes roots : List ℕ) → Below sizes → Below roots → length (rootsBytes h (rootsOf sizes roots)) ≤ 8 * (length sizes + length roots)
+pub roots-few : (h : Header) (sizes roots : List ℕ) → Below sizes → Below roots
+    → length (rootsBytes h (rootsOf sizes roots)) ≤ 8 * (length sizes + length roots)
 unfolding rootsBytes
 roots-few h sizes roots bs br =
     let n = h .outputs + h .bad + h .constraints in
@@ -174,52 +181,61 @@ one-of (v ∷ vs) zero = omega arith
 one-of (v ∷ vs) (suc i) = omega (arith, one-of vs i)
 
 -- latch lines, each with two numbers of seven digits at most
+pub latch-few : (next reset : ℕ) → next < 10000000 → reset < 10000000 → length (latchBytes next reset) ≤ 16
+latch-few next reset n r = omega (arith, latch-most next reset, seven-digits next n, seven-digits reset r)
+
 latches-few : (ns rs : List ℕ) → Below ns → Below rs → length (latchesBytes ns rs) ≤ 16 * length ns
-unfolding digitsOf
 latches-few [] rs h i = omega arith
 latches-few (n ∷ ns) [] h i = omega arith
 latches-few (n ∷ ns) (r ∷ rs) h i =
-    omega (
-      arith,
-      length-append (latchBytes n r) (latchesBytes ns rs),
-      latch-most n r,
-      digits-below 6 19 n (h .0),
-      digits-below 6 19 r (i .0),
-      latches-few ns rs (h .1) (i .1),
-    )
+    omega (arith, length-append (latchBytes n r) (latchesBytes ns rs), latch-few n r (h .0) (i .0), latches-few ns rs (h .1) (i .1))
+
+-- the numbers of a circuit that passed its checks
+module _ (w : Words) (g : Given w) where
+  abbrev most : ℕ
+  most = 2 * variablesOf (circuitIn w) + 1
+
+  count-below : (i : ℕ) → getD (w .counts) i 0 < 10000000
+  count-below i = omega (arith, one-of (w .counts) i, g .ordered .counts, g .ordered .few)
+
+  pub counts-below : Below (countsOf (headerFor (fileIn w)))
+  counts-below =
+      let v = g .ordered .variables in
+      let kept = below-kept (optional (headerFor (fileIn w))) (count-below 1, (count-below 2, (omega (arith, g .sets), (count-below 3, tt)))) in
+      (omega (arith, v), (omega (arith, v), (omega (arith, v), (count-below 0, (omega (arith, v), kept)))))
+
+  pub sizes-below : Below (w .sizes)
+  sizes-below = below-total (w .sizes) (omega (arith, g .sizes, count-below 4))
+
+  pub nexts-below : Below (w .nexts)
+  nexts-below = below-within most (w .nexts) (omega (arith, g .ordered .variables)) (g .ordered .nexts)
+
+  pub resets-below : Below (w .resets)
+  resets-below =
+      below-within most (w .resets) (omega (arith, g .ordered .variables)) (resets-within (circuitIn w) (g .ordered .resetCount) (g .ordered .resets))
+
+  pub roots-below : Below (w .roots)
+  roots-below = below-within most (w .roots) (omega (arith, g .ordered .variables)) (g .ordered .roots)
 
 -- the whole file, of V variables, L latches, R roots and J justice sets
 pub file-most : (w : Words) → Given w
     → length (fileOf (fileIn w)) ≤ 76 + 8 * (variablesOf (circuitIn w) + length (w .nexts) + length (w .roots) + length (w .sizes))
 unfolding partsOf firstCode
 file-most w g =
-    let f = fileIn w in
-    let h = headerFor f in
-    let o = g .ordered in
+    let h = headerFor (fileIn w) in
     let n = sourcesOf (circuitIn w) in
     let gs = pairsOf (w .gates) in
     let a = headerBytes tag h in
     let b = latchesBytes (w .nexts) (w .resets) in
     let c = rootsBytes h (rootsOf (w .sizes) (w .roots)) in
     let d = gatesBytes (firstCode n) gs in
-    let most : ℕ → Type 0 = λ (i : ℕ). getD (w .counts) i 0 < 10000000 in
-    let small : (i : ℕ) → most i = λ i. omega (arith, one-of (w .counts) i, o .counts, o .few) in
-    let kept = below-kept (optional h) (small 1, (small 2, (omega (arith, g .sets), (small 3, tt)))) in
-    let counts : Below (countsOf h)
-    = (omega (arith, o .variables), (omega (arith, o .variables), (omega (arith, o .variables), (small 0, (omega (arith, o .variables), kept))))) in
-    let sizes : Below (w .sizes) = below-total (w .sizes) (omega (arith, g .sizes, small 4)) in
-    let bound = 2 * variablesOf (circuitIn w) + 1 in
-    let nexts : Below (w .nexts) = below-within bound (w .nexts) (omega (arith, o .variables)) (o .nexts) in
-    let resets : Below (w .resets)
-    = below-within bound (w .resets) (omega (arith, o .variables)) (resets-within (circuitIn w) (o .resetCount) (o .resets)) in
-    let roots : Below (w .roots) = below-within bound (w .roots) (omega (arith, o .variables)) (o .roots) in
     omega (
       arith,
       length-append a (b ++ (c ++ d)),
       length-append b (c ++ d),
       length-append c d,
-      header-few h counts,
-      latches-few (w .nexts) (w .resets) nexts resets,
-      roots-few h (w .sizes) (w .roots) sizes roots,
-      gates-few (firstCode n) gs (o .gates) (omega (arith, o .variables)),
+      header-few 105 h (counts-below w g),
+      latches-few (w .nexts) (w .resets) (nexts-below w g) (resets-below w g),
+      roots-few h (w .sizes) (w .roots) (sizes-below w g) (roots-below w g),
+      gates-few (firstCode n) gs (g .ordered .gates) (omega (arith, g .ordered .variables)),
     )

@@ -94,12 +94,12 @@ gates-pinned = (refl, refl, refl, refl, refl, refl, refl, refl, refl, refl)
 -- 3. Answers, and the lent bytes afterwards.
 
 -- inputs, counts, next states, resets, gates, sizes, roots
-abbrev words : ℕ → List ℕ → List ℕ → List ℕ → List ℕ → List ℕ → List ℕ → Words
+abbrev pub words : ℕ → List ℕ → List ℕ → List ℕ → List ℕ → List ℕ → List ℕ → Words
 words inputs counts nexts resets gates sizes roots =
     record { inputs = inputs; counts = counts; nexts = nexts; resets = resets; gates = gates; sizes = sizes; roots = roots }
 
 -- the small file as it is lent
-abbrev smallWords : Words
+abbrev pub smallWords : Words
 smallWords = words 2 (2 ∷ 1 ∷ 1 ∷ 1 ∷ 3 ∷ []) (8 ∷ []) (1 ∷ []) (6 ∷ 2 ∷ 8 ∷ 3 ∷ 10 ∷ 9 ∷ []) (2 ∷ 1 ∷ []) (12 ∷ 13 ∷ 9 ∷ 3 ∷ 7 ∷ 6 ∷ 11 ∷ 5 ∷ [])
 
 pub answers-pinned :

@@ -116,17 +116,17 @@ five-counts (o ∷ b ∷ c ∷ f ∷ j ∷ x ∷ l) e = absurd (omega arith)
 -- the whole file
 
 module _ (f : File) (k : Sound f) where
-  its-counts : f .ordered .counts ≡ countsOf (headerFor f) (f .sizes)
+  pub its-counts : f .ordered .counts ≡ countsOf (headerFor f) (f .sizes)
   its-counts =
       let cs : List ℕ = f .ordered .counts in
       five-counts cs (k .five) ∙ ap (λ (j : ℕ). getD cs 0 0 ∷ getD cs 1 0 ∷ getD cs 2 0 ∷ getD cs 3 0 ∷ j ∷ []) (sym (k .sizes))
 
-  its-roots : length (f .ordered .roots) ≡ rootCount (headerFor f) (total (f .sizes))
+  pub its-roots : length (f .ordered .roots) ≡ rootCount (headerFor f) (total (f .sizes))
   its-roots =
       let sum : total (f .ordered .counts) ≡ total (countsOf (headerFor f) (f .sizes)) = ap total its-counts in
       omega (arith, sum, k .wellOrdered .counts)
 
-  its-header : Within (headerFor f)
+  pub its-header : Within (headerFor f)
   its-header =
       record {
         top = k .wellOrdered .variables;
@@ -260,49 +260,48 @@ sound-written f k out =
 
 -- what writing answers, and the bytes that it leaves
 
-module _ (w : Words) (out bytes : List ℕ) where
-  -- bytes that are written are read as the circuit that was lent
-  pub written-is-read : (n : ℕ) → writing w out ≡ wrote (Written n) bytes → length (w .counts) ≡ 5 → (room : Room) → Holds room (fileIn w)
-      → readFile bytes room ≡ got (fileIn w) n
-  unfolding writing
-  written-is-read n e five room fits = go (checked w 0) refl e
-    where
-      to : (b : Bool) → ltb (length out) (length (fileOf (fileIn w))) ≡ b → Given w
-          → cond b (wrote (Unwritten Short (length (fileOf (fileIn w)))) out) (wrote (Written (length (fileOf (fileIn w)))) (onto (fileOf (fileIn w)) out))
-          ≡ wrote (Written n) bytes
-          → readFile bytes room ≡ got (fileIn w) n
-      to true f k g =
-          let answer : Unwritten Short (length (fileOf (fileIn w))) ≡ Written n = ap (λ (x : Writing). x .answer) g in
-          absurd (let z : _≡_ {A = ℕ} 0 1 = cc in omega arith)
-      to false f k g =
-          let answer : Written (length (fileOf (fileIn w))) ≡ Written n = ap (λ (x : Writing). x .answer) g in
-          let used : length (fileOf (fileIn w)) ≡ n = cc in
-          let after : List ℕ = drop (length (fileOf (fileIn w))) out in
-          let whole : take (length out) (fileOf (fileIn w)) ≡ fileOf (fileIn w) =
-          take-all (length out) (fileOf (fileIn w)) (ltb-false (length out) (length (fileOf (fileIn w))) f) in
-          let left : bytes ≡ fileOf (fileIn w) ++ after = sym (ap (λ (x : Writing). x .bytes) g) ∙ ap (λ (l : List ℕ). l ++ after) whole in
-          ap (λ (l : List ℕ). readFile l room) left ∙ reads-back (fileIn w) (given-sound w k five) room fits after ∙ ap (got (fileIn w)) used
+-- bytes that are written are the file, whatever it is, and what stood behind it; and the checks were passed
+pub written-front : (c : Checked) (file out bytes : List ℕ) (n : ℕ) → writtenAs c file out ≡ wrote (Written n) bytes
+    → (c ≡ Fits) × (length file ≡ n) × (bytes ≡ file ++ drop (length file) out)
+written-front Fits file out bytes n e = go (ltb (length out) (length file)) refl e
+  where
+    go : (b : Bool) → ltb (length out) (length file) ≡ b
+        → cond b (wrote (Unwritten Short (length file)) out) (wrote (Written (length file)) (onto file out)) ≡ wrote (Written n) bytes
+        → (Fits ≡ Fits) × (length file ≡ n) × (bytes ≡ file ++ drop (length file) out)
+    go true f g =
+        let answer : Unwritten Short (length file) ≡ Written n = ap (λ (x : Writing). x .answer) g in
+        absurd (let z : _≡_ {A = ℕ} 0 1 = cc in omega arith)
+    go false f g =
+        let answer : Written (length file) ≡ Written n = ap (λ (x : Writing). x .answer) g in
+        let used : length file ≡ n = cc in
+        let whole : take (length out) file ≡ file = take-all (length out) file (ltb-false (length out) (length file) f) in
+        (refl, used, sym (ap (λ (x : Writing). x .bytes) g) ∙ ap (λ (l : List ℕ). l ++ drop (length file) out) whole)
+written-front (Faulty why) file out bytes n e =
+    let answer : Unwritten why 0 ≡ Written n = ap (λ (x : Writing). x .answer) e in
+    absurd (let z : _≡_ {A = ℕ} 0 1 = cc in omega arith)
 
-      go : (c : Checked) → checked w 0 ≡ c → writtenAs c (fileOf (fileIn w)) out ≡ wrote (Written n) bytes → readFile bytes room ≡ got (fileIn w) n
-      go Fits f g = let k = fits-exactly w 0 .0 f in to (ltb (length out) (length (fileOf (fileIn w)))) refl (k .0) g
-      go (Faulty why) f g =
-          let answer : Unwritten why 0 ≡ Written n = ap (λ (x : Writing). x .answer) g in
-          absurd (let z : _≡_ {A = ℕ} 0 1 = cc in omega arith)
+-- so they are read as the circuit that was lent
+pub written-is-read : (w : Words) (out bytes : List ℕ) (n : ℕ) → writing w out ≡ wrote (Written n) bytes → length (w .counts) ≡ 5 → (room : Room)
+    → Holds room (fileIn w) → readFile bytes room ≡ got (fileIn w) n
+unfolding writing
+written-is-read w out bytes n e five room fits =
+    let t = written-front (checked w 0) (fileOf (fileIn w)) out bytes n e in
+    let sound = given-sound w (fits-exactly w 0 .0 (t .0) .0) five in
+    ap (λ (l : List ℕ). readFile l room) (t .2) ∙ reads-back (fileIn w) sound room fits (drop (length (fileOf (fileIn w))) out) ∙ ap (got (fileIn w)) (t .1)
 
-  -- a refusal leaves them as they were
-  pub refusals-keep : (why : Fault) (needed : ℕ) → writing w out ≡ wrote (Unwritten why needed) bytes → bytes ≡ out
-  unfolding writing
-  refusals-keep why needed e = go (checked w 0) e
-    where
-      to : (b : Bool)
-          → cond b (wrote (Unwritten Short (length (fileOf (fileIn w)))) out) (wrote (Written (length (fileOf (fileIn w)))) (onto (fileOf (fileIn w)) out))
-          ≡ wrote (Unwritten why needed) bytes
-          → bytes ≡ out
-      to true g = sym (ap (λ (x : Writing). x .bytes) g)
-      to false g =
-          let answer : Written (length (fileOf (fileIn w))) ≡ Unwritten why needed = ap (λ (x : Writing). x .answer) g in
-          absurd (let z : _≡_ {A = ℕ} 0 1 = cc in omega arith)
+-- a refusal leaves the lent bytes as they were, whatever file was to be written
+pub refused-keeps : (c : Checked) (file out bytes : List ℕ) (why : Fault) (needed : ℕ) → writtenAs c file out ≡ wrote (Unwritten why needed) bytes
+    → bytes ≡ out
+refused-keeps Fits file out bytes why needed e = go (ltb (length out) (length file)) e
+  where
+    go : (b : Bool) → cond b (wrote (Unwritten Short (length file)) out) (wrote (Written (length file)) (onto file out)) ≡ wrote (Unwritten why needed) bytes
+        → bytes ≡ out
+    go true g = sym (ap (λ (x : Writing). x .bytes) g)
+    go false g =
+        let answer : Written (length file) ≡ Unwritten why needed = ap (λ (x : Writing). x .answer) g in
+        absurd (let z : _≡_ {A = ℕ} 0 1 = cc in omega arith)
+refused-keeps (Faulty because) file out bytes why needed e = sym (ap (λ (x : Writing). x .bytes) e)
 
-      go : (c : Checked) → writtenAs c (fileOf (fileIn w)) out ≡ wrote (Unwritten why needed) bytes → bytes ≡ out
-      go Fits g = to (ltb (length out) (length (fileOf (fileIn w)))) g
-      go (Faulty because) g = sym (ap (λ (x : Writing). x .bytes) g)
+pub refusals-keep : (w : Words) (out bytes : List ℕ) (why : Fault) (needed : ℕ) → writing w out ≡ wrote (Unwritten why needed) bytes → bytes ≡ out
+unfolding writing
+refusals-keep w = refused-keeps (checked w 0) (fileOf (fileIn w))

@@ -1,5 +1,5 @@
 -- What follows of the C entries' contracts: each allows one outcome, and what C sees of it is all that is demanded. Calls by example, with every word, stand
--- in Pins (renumbering), ExpandPins, and file_words' Pins (reading) and WritePins. Assumes nothing.
+-- in Pins (renumbering), ExpandPins, and file_words' Pins, TextPins (reading), WritePins and TextWritePins. Assumes nothing.
 pub use Rattle.capi.proofs.Pins.{seen-pinned, flags-told, circuits-shown, settings-pinned, refusals-pinned, rooms-pinned, words-pinned}
 pub use Rattle.capi.proofs.ExpandPins.{expanded-pinned}
 use Prim.Native.Nat.{ℕ, _≤_}
@@ -14,6 +14,7 @@ use Rattle.circuit.specs.Demands.{Demands}
 use Rattle.circuit.proofs.Demands.{demands}
 use Rattle.file_words.specs.Read as file
 use Rattle.file_words.specs.Write as write
+use Rattle.file_words.specs.Text as text
 use Rattle.capi.specs.Renumber.{Seen, misgiven, asSeen, renumberSeen}
 use Rattle.capi.specs.Expand as expand
 use Rattle.capi.proofs.imdagluz_delta.Kinds as delta-kinds
@@ -26,6 +27,10 @@ use Rattle.capi.proofs.imdagluz_expand.Kinds as expand-kinds
 use Rattle.capi.proofs.imdagluz_expand.Reads as expand-promise
 use Rattle.capi.proofs.imdagluz_write_aig.Kinds as write-aig-kinds
 use Rattle.capi.proofs.imdagluz_write_aig.Reads as write-aig-promise
+use Rattle.capi.proofs.texts.imdagluz_read_aag.Kinds as read-aag-kinds
+use Rattle.capi.proofs.texts.imdagluz_read_aag.Reads as read-aag-promise
+use Rattle.capi.proofs.texts.imdagluz_write_aag.Kinds as write-aag-kinds
+use Rattle.capi.proofs.texts.imdagluz_write_aag.Reads as write-aag-promise
 
 -- any two outcomes that a contract allows for the same arguments are equal: of `imdagluz_delta` the number, and each lent byte
 pub one-imdagluz-delta : DeterminesCells 2 delta-kinds.ps delta-kinds.r delta-promise.Learnt (λ κs e. now (e .1 .1 .1 .0))
@@ -74,6 +79,32 @@ pub one-imdagluz-write-aig :
     DeterminesCells 8 write-aig-kinds.ps write-aig-kinds.r write-aig-promise.Learnt {A = List ℕ × List ℕ}
     (λ κs e. (now (e .1 .1 .1 .1 .1 .1 .1 .0), now (e .1 .1 .1 .1 .1 .1 .1 .1 .0)))
 one-imdagluz-write-aig κs a x y e f p q =
+    (ap (λ (s : write.Seen). s .number) (p ∙ sym q), ap (λ (s : write.Seen). (s .bytes, s .words)) (p ∙ sym q))
+
+-- of `imdagluz_read_aag` the number, each of the seven lists, and the answer words
+pub one-imdagluz-read-aag :
+    DeterminesCells 9 read-aag-kinds.ps read-aag-kinds.r read-aag-promise.Learnt
+    {A = List ℕ × List ℕ × List ℕ × List ℕ × List ℕ × List ℕ × List ℕ × List ℕ}
+    (λ κs e. (
+      now (e .1 .0),
+      now (e .1 .1 .0),
+      now (e .1 .1 .1 .0),
+      now (e .1 .1 .1 .1 .0),
+      now (e .1 .1 .1 .1 .1 .0),
+      now (e .1 .1 .1 .1 .1 .1 .0),
+      now (e .1 .1 .1 .1 .1 .1 .1 .0),
+      now (e .1 .1 .1 .1 .1 .1 .1 .1 .0),
+    ))
+one-imdagluz-read-aag κs a x y e f p q = (
+  ap (λ (s : text.TextSeen). s .number) (p ∙ sym q),
+  ap (λ (s : text.TextSeen). (s .inputs, s .states, s .nexts, s .resets, s .gates, s .sizes, s .roots, s .words)) (p ∙ sym q),
+)
+
+-- of `imdagluz_write_aag` the number, each lent byte, and the answer words
+pub one-imdagluz-write-aag :
+    DeterminesCells 8 write-aag-kinds.ps write-aag-kinds.r write-aag-promise.Learnt {A = List ℕ × List ℕ}
+    (λ κs e. (now (e .1 .1 .1 .1 .1 .1 .1 .0), now (e .1 .1 .1 .1 .1 .1 .1 .1 .0)))
+one-imdagluz-write-aag κs a x y e f p q =
     (ap (λ (s : write.Seen). s .number) (p ∙ sym q), ap (λ (s : write.Seen). (s .bytes, s .words)) (p ∙ sym q))
 
 -- given room for the answer, five counts and flags that are flags, what C sees is an outcome that is all the customer demands

@@ -1,5 +1,6 @@
 // What C calls. `include/imdagluz.h` declares it, with every promise in a comment. A slice is a pointer and a length on C's side.
 mod renumber;
+pub mod texts;
 
 ghost use mathlib.Core.Path.{_≡_};
 ghost use Rattle.delta_bytes.specs.Delta.{deltaNumber, deltaBytes};

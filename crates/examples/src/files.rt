@@ -215,7 +215,7 @@ fn read(
 }
 
 // `: takes BYTES bytes` with M, I, L and A, the numbers of roots of each kind, and of justice sets; or what refused it.
-fn said(number: u32, words: &[u64]) {
+pub fn said(number: u32, words: &[u64]) {
     if number == 0 {
         part(b": takes ", words, 0);
         say::text(b" bytes");

@@ -1,4 +1,4 @@
-// Runs the documents' examples and prints a line for each. The literals' stand in `lits.rt`; those of tokens, circuits, files and writing in the file `stdin`
+// Runs the documents' examples and prints a line for each. The literals' stand in `lits.rt`; those of tokens, circuits, files, texts and writing in the file `stdin`
 // beside `src`, a line each; the token reader's and the gate records' in `readings.rt` and `records.rt`. What is printed is held to the file `stdout`,
 // which was written from the documents and not by this program.
 mod circuits;
@@ -11,6 +11,7 @@ mod readings;
 mod records;
 mod say;
 mod show;
+mod texts;
 mod tokens;
 mod writings;
 
@@ -36,16 +37,17 @@ fn lines(s: &[u8]) {
     }
 }
 
-// The first letter tells a circuit, a map, a file, what is written and what is written again, and a token apart. A line that is empty or begins with `#`
-// is for the reader.
+// The first letter tells a circuit, a map, a file, a text, what is written and what is written again, and a token apart: a capital W or A writes a text. A line
+// that is empty or begins with `#` is for the reader.
 fn line(s: &[u8]) {
     match fields::byte(s, 0) {
         0 | b'#' => {}
         b'V' => circuits::answer(s),
         b'M' => circuits::in_map(s),
         b'f' => files::answer(s),
-        b'w' => writings::answer(s),
-        b'a' => writings::again(s),
+        b'T' => texts::answer(s),
+        b'w' | b'W' => writings::answer(s),
+        b'a' | b'A' => writings::again(s),
         _ => tokens::answer(s),
     }
 }

@@ -38,6 +38,7 @@ fn with_roots(line: &[u8], nexts: &[u32], resets: &[u32], gates: &[u32]) {
     let k = lists::list(line, b'K', &mut counts);
     let k = front(named_or(k, 5), &counts);
     shown(
+        fields::byte(line, 0),
         lists::one(line, b'B') as usize,
         named_or(lists::one(line, b'A') as usize, 3),
         lists::one(line, b'I'),
@@ -55,8 +56,9 @@ fn named_or(n: usize, other: usize) -> usize {
     if n == 0 { other } else { n }
 }
 
-// Writes the circuit into so many bytes, with so many words for the answer.
+// Writes the circuit in the form that the line's first letter tells into so many bytes, with so many words for the answer.
 fn shown(
+    form: u8,
     room: usize,
     lent: usize,
     inputs: u32,
@@ -72,6 +74,7 @@ fn shown(
     let n = bytes_front(room, &out);
     let w = words_front(lent, &words);
     written(
+        form,
         inputs,
         counts,
         nexts,
@@ -86,6 +89,7 @@ fn shown(
 
 // Writes the circuit, and prints the answer, its words and the bytes.
 fn written(
+    form: u8,
     inputs: u32,
     counts: &[u32],
     nexts: &[u32],
@@ -96,7 +100,8 @@ fn written(
     out: &mut [u8],
     words: &mut [u64],
 ) {
-    let number = file_words::write(
+    let number = number(
+        form,
         inputs,
         counts,
         nexts,
@@ -113,6 +118,45 @@ fn written(
     say::text(b"\"");
 }
 
+// Writes the circuit as a text where the letter is a capital, and else as a binary file: 0, or a refusal's number.
+fn number(
+    form: u8,
+    inputs: u32,
+    counts: &[u32],
+    nexts: &[u32],
+    resets: &[u32],
+    gates: &[u32],
+    sizes: &[u32],
+    roots: &[u32],
+    out: &mut [u8],
+    words: &mut [u64],
+) -> u32 {
+    if form < b'a' {
+        return file_words::write_text(
+            inputs,
+            counts,
+            nexts,
+            resets,
+            gates,
+            sizes,
+            roots,
+            out,
+            words,
+        );
+    }
+    file_words::write(
+        inputs,
+        counts,
+        nexts,
+        resets,
+        gates,
+        sizes,
+        roots,
+        out,
+        words,
+    )
+}
+
 // `written` or `refused NUMBER`, and the answer's words.
 fn said(number: u32, words: &[u64]) {
     if number == 0 {
@@ -126,17 +170,17 @@ fn said(number: u32, words: &[u64]) {
     files::part(b" ", words, 2);
 }
 
-// Reads the file on the line, and writes what was read into as many bytes as the file has.
+// Reads the file on the line, and writes what was read, into as many bytes as the file has; as a text, into 64.
 pub fn again(line: &[u8]) {
     say::text(line);
     let mut file = [0u8; 64];
     let quote = find(line, 0, line.len(), b'"');
     let n = escapes::bytes(line, fields::sum(quote, 1), &mut file);
-    read(&file[..n]);
+    read(fields::byte(line, 0), &file[..n]);
     say::line_end();
 }
 
-fn read(file: &[u8]) {
+fn read(form: u8, file: &[u8]) {
     let mut nexts = [77u32; 4];
     let mut resets = [77u32; 4];
     let mut gates = [77u32; 8];
@@ -155,7 +199,8 @@ fn read(file: &[u8]) {
     if number == 0 {
         files::part(b": takes ", &words, 0);
         say::text(b" bytes; ");
-        rewritten(file.len(), &words, &nexts, &resets, &gates, &sizes, &roots);
+        let room = if form < b'a' { 64 } else { file.len() };
+        rewritten(form, room, &words, &nexts, &resets, &gates, &sizes, &roots);
         return;
     }
     say::counted(b": refused ", number as u64);
@@ -163,6 +208,7 @@ fn read(file: &[u8]) {
 
 // Writes the circuit of a file's words and the fronts of its lists.
 fn rewritten(
+    form: u8,
     room: usize,
     words: &[u64],
     nexts: &[u32],
@@ -184,6 +230,7 @@ fn rewritten(
     let s = front(count(words, 10) as usize, sizes);
     let r = front(all as usize, roots);
     shown(
+        form,
         room,
         3,
         count(words, 2),
@@ -208,7 +255,7 @@ fn count(words: &[u64], at: usize) -> u32
 }
 
 // The number, or the list's length where that is smaller. The two functions after it are the same for bytes and for the answer's words.
-fn front(n: usize, list: &[u32]) -> usize
+pub fn front(n: usize, list: &[u32]) -> usize
     ensures { λ r. ⌜ Counts r (now (list .entry)) ⌝ }
 {
     if n < list.len() { n } else { list.len() }

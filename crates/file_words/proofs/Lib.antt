@@ -2,5 +2,10 @@ pub mod Words
 pub mod Writing
 pub mod Pins
 pub mod WritePins
+pub mod TextPins
+pub mod TextWritePins
 pub mod Refusals
+pub mod FileRefusals
+pub mod TextRefusals
 pub mod Theorems
+pub mod TextTheorems

@@ -14,7 +14,7 @@ use Rattle.binary.specs.File.{gateAt, gatesAt, sizedAt, listsAt, bodyAt, readFi
 use Rattle.binary.specs.Promise.{Lists}
 use Rattle.binary.specs.declared.FileAnswer.the-variants.{Taken}
 use Rattle.binary.specs.declared.FileRead.{FileRead}
-use Rattle.file_words.specs.Read.{Seen, answerWords, readSeen}
+use Rattle.file_words.specs.Read.{Seen, topOf, answerWords, readSeen}
 
 -- next states, resets, gates, sizes, roots
 abbrev lists : List ℕ → List ℕ → List ℕ → List ℕ → List ℕ → Lists
@@ -38,7 +38,7 @@ dirty =
     lists (21 ∷ 22 ∷ []) (71 ∷ 72 ∷ 73 ∷ []) (23 ∷ 24 ∷ 25 ∷ 26 ∷ 27 ∷ 28 ∷ []) (31 ∷ 32 ∷ []) (41 ∷ 42 ∷ 43 ∷ 44 ∷ 45 ∷ 46 ∷ 47 ∷ 48 ∷ [])
 
 -- twelve answer words
-abbrev words : List ℕ
+abbrev pub words : List ℕ
 words = 51 ∷ 52 ∷ 53 ∷ 54 ∷ 55 ∷ 56 ∷ 57 ∷ 58 ∷ 59 ∷ 60 ∷ 61 ∷ 62 ∷ []
 
 -- a refusal in lists of n, t, g, z and r words: its number and its place, and nothing else but the twelfth answer word
@@ -51,19 +51,19 @@ abbrev refused : ℕ → ℕ → Seen
 refused number place = cleared 2 3 6 2 8 number place
 
 -- ten answer words, and what is seen of the dirty lists where nothing is written
-abbrev ten : List ℕ
+abbrev pub ten : List ℕ
 ten = 51 ∷ 52 ∷ 53 ∷ 54 ∷ 55 ∷ 56 ∷ 57 ∷ 58 ∷ 59 ∷ 60 ∷ []
 
 abbrev untouched : ℕ → List ℕ → Seen
 untouched number left = sees number (dirty .nexts) (dirty .resets) (dirty .gates) (dirty .sizes) (dirty .roots) left
 
 -- the numbers of a file that is taken, all of them different
-abbrev numbers : FileRead
+abbrev pub numbers : FileRead
 numbers = record { answer = Taken 99; inputs = 2; latches = 30; gates = 400; counts = 5 ∷ 6 ∷ 7 ∷ 8 ∷ 9 ∷ []; sets = 10 }
 
--- which word is which; M is the sum of three
-pub words-pinned : answerWords numbers ≡ 99 ∷ 432 ∷ 2 ∷ 30 ∷ 400 ∷ 5 ∷ 6 ∷ 7 ∷ 8 ∷ 9 ∷ 10 ∷ []
-words-pinned = refl
+-- which word is which; M of a binary file is the sum of three
+pub words-pinned : (answerWords 700 numbers ≡ 99 ∷ 700 ∷ 2 ∷ 30 ∷ 400 ∷ 5 ∷ 6 ∷ 7 ∷ 8 ∷ 9 ∷ 10 ∷ []) × (topOf numbers ≡ 432)
+words-pinned = (refl, refl)
 
 -- a file that is taken: all is there, its reset too, fairness before justice, and 46 bytes are used
 pub taken-pinned :

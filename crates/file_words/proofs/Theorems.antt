@@ -13,9 +13,8 @@ use borrow.Author.Tests.{le-ltb}
 use denote.Ref.{now}
 use Rattle.promise.specs.Determined.{DeterminesCells}
 use Rattle.lines.specs.Numbers.{faultNumber}
-use Rattle.token.specs.Answer.{reasonNumber}
-use Rattle.token.specs.declared.Reason.{Reason}
-use Rattle.token.specs.declared.Reason.the-variants.{NoDigit, LeadingZero, OverWidth, OverLimit, AssignsZero, AssignsOdd, Cut, TooLong, OverReference, ZeroDelta}
+use Rattle.token.specs.declared.Reason.the-variants.{NoDigit, LeadingZero, OverWidth, OverLimit, AssignsZero, AssignsOdd}
+use Rattle.token.specs.declared.Reason.the-variants.{Cut, TooLong, OverReference, ZeroDelta}
 use Rattle.lines.specs.declared.Fault.{Fault}
 use Rattle.lines.specs.declared.Fault.the-variants.{Number, Missing, Above, TooMany, Short, Reset}
 use Rattle.lines.specs.Reading.{Read, got, no}
@@ -34,9 +33,10 @@ use Rattle.ordered.specs.Given as ordered
 use Rattle.ordered.proofs.Theorems.{exactly, fits-exactly}
 use Rattle.file_words.specs.Read.{Seen, fileNumber, readSeen}
 use Rattle.file_words.specs.Write as write
-use Rattle.file_words.specs.Write.{writtenNumber, asSeen, writeSeen}
+use Rattle.file_words.specs.Write.{writtenNumber, asSeen, seenBy, writeSeen}
 use Rattle.binary.proofs.Most as most
-use Rattle.file_words.proofs.Refusals.{Only, Has, only-read}
+use Rattle.file_words.proofs.Refusals.{only-refused, only-taken}
+use Rattle.file_words.proofs.FileRefusals.{HasFile, only-read}
 use Rattle.file_words.proofs.read.Kinds as read-kinds
 use Rattle.file_words.proofs.read.Reads as read-promise
 use Rattle.file_words.proofs.write.Kinds as write-kinds
@@ -72,82 +72,75 @@ among n (m ∷ ms) = eqb n m || among n ms
 abbrev pub Given : Fault → Type 0
 Given why = among (faultNumber why) (1 ∷ 3 ∷ 10 ∷ 11 ∷ 12 ∷ 15 ∷ 16 ∷ 17 ∷ 18 ∷ 19 ∷ 20 ∷ 21 ∷ 22 ∷ []) ≡ true
 
-has-given : Has Given
+has-given : HasFile Given
 has-given =
     record {
-      no-digit = refl;
-      leading-zero = refl;
-      over-width = refl;
-      over-limit = refl;
+      both =
+          record {
+            no-digit = refl;
+            leading-zero = refl;
+            over-width = refl;
+            over-limit = refl;
+            missing = refl;
+            too-many = refl;
+            short = refl;
+            reset = refl;
+          };
       cut = refl;
       too-long = refl;
       over-reference = refl;
       zero-delta = refl;
-      missing = refl;
       above = refl;
-      too-many = refl;
-      short = refl;
-      reset = refl;
     }
 
 -- and its place is not past the end of the bytes
 pub refusals-given : (bytes : List ℕ) (room : Room) (why : Fault) (place : ℕ) → readFile bytes room ≡ no why place → Given why × (place ≤ length bytes)
-refusals-given bytes room why place e = refusal (readFile bytes room) (only-read bytes room Given has-given) e
-  where
-    refusal : (R : Read File) → Only bytes Given R → R ≡ no why place → Given why × (place ≤ length bytes)
-    refusal (got f at) h e = absurd (let z : _≡_ {A = ℕ} 0 1 = cc in omega arith)
-    refusal (no w at) h e = let same : w ≡ why = cc in let here : at ≡ place = cc in (rw (← same) (h .0), omega (arith, h .1, here))
+refusals-given bytes room why place e = only-refused bytes Given (readFile bytes room) why place (only-read bytes room Given has-given) e
 
 -- nor are there more bytes used than there are
 pub bytes-used : (bytes : List ℕ) (room : Room) (f : File) (n : ℕ) → readFile bytes room ≡ got f n → n ≤ length bytes
-bytes-used bytes room f n e = taken (readFile bytes room) (only-read bytes room Given has-given) e
-  where
-    taken : (R : Read File) → Only bytes Given R → R ≡ got f n → n ≤ length bytes
-    taken (got g at) h e = let here : at ≡ n = cc in omega (arith, h, here)
-    taken (no w at) h e = absurd (let z : _≡_ {A = ℕ} 0 1 = cc in omega arith)
+bytes-used bytes room f n e = only-taken bytes Given (readFile bytes room) f n (only-read bytes room Given has-given) e
+
+-- 3 is told of a list that is too short, and of nothing else
+pub three-is-short : (why : Fault) → faultNumber why ≡ 3 → why ≡ Short
+three-is-short (Number NoDigit) e = absurd (omega arith)
+three-is-short (Number LeadingZero) e = absurd (omega arith)
+three-is-short (Number OverWidth) e = absurd (omega arith)
+three-is-short (Number OverLimit) e = absurd (omega arith)
+three-is-short (Number AssignsZero) e = absurd (omega arith)
+three-is-short (Number AssignsOdd) e = absurd (omega arith)
+three-is-short (Number Cut) e = absurd (omega arith)
+three-is-short (Number TooLong) e = absurd (omega arith)
+three-is-short (Number OverReference) e = absurd (omega arith)
+three-is-short (Number ZeroDelta) e = absurd (omega arith)
+three-is-short Missing e = absurd (omega arith)
+three-is-short Above e = absurd (omega arith)
+three-is-short TooMany e = absurd (omega arith)
+three-is-short Reset e = absurd (omega arith)
+three-is-short Short e = refl
 
 -- with room for the answer and lists of the limits, 1,048,575 words for next states, resets, sizes and roots, 2,097,150 for gates, no file is answered 3
 pub never-three : (bytes : List ℕ) (l : Lists) (words : List ℕ) → 11 ≤ length words → Ample (roomOf l) → readSeen bytes l words .number ≢ 3
 unfolding readSeen
 never-three bytes l words room ample = rw (le-ltb (length words) 11 room) (go (readFile bytes (roomOf l)) refl)
   where
-    refused : (why : Fault) (place : ℕ) → readFile bytes (roomOf l) ≡ no why place → Given why → faultNumber why ≢ 3
-    refused (Number why) place e g = reason why g
-      where
-        reason : (w : Reason) → Given (Number w) → reasonNumber w ≢ 3
-        reason NoDigit h = omega arith
-        reason LeadingZero h = omega arith
-        reason OverWidth h = omega arith
-        reason OverLimit h = omega arith
-        reason AssignsZero h = omega arith
-        reason AssignsOdd h = omega arith
-        reason Cut h = omega arith
-        reason TooLong h = omega arith
-        reason OverReference h = omega arith
-        reason ZeroDelta h = omega arith
-    refused Missing place e g = omega arith
-    refused Above place e g = omega arith
-    refused TooMany place e g = omega arith
-    refused Reset place e g = omega arith
-    refused Short place e g = absurd (never-short bytes (roomOf l) ample place e)
-
     go : (R : Read File) → readFile bytes (roomOf l) ≡ R → fileNumber (left R l .read .answer) ≢ 3
     go (got f at) e = omega arith
-    go (no why place) e = refused why place e (refusals-given bytes (roomOf l) why place e .0)
+    go (no why place) e = λ three. never-short bytes (roomOf l) ample place (e ∙ ap (λ (w : Fault). no w place) (three-is-short why three))
 
 -- what is written of an ordered circuit of V variables, L latches, R roots and J justice sets has at most 76 + 8 (V + L + R + J) bytes
 pub file-most : (w : Words) → ordered.Given w
     → length (fileOf (fileIn w)) ≤ 76 + 8 * (variablesOf (circuitIn w) + length (w .nexts) + length (w .roots) + length (w .sizes))
 file-most = most.file-most
 
--- where as many bytes are lent as the file has, and two answer words, 3 is not answered
-not-short : (w : Words) (out words : List ℕ) → 2 ≤ length words → (ordered.Given w → length (fileOf (fileIn w)) ≤ length out)
-    → writeSeen w out words .number ≢ 3
-unfolding writeSeen writing
-not-short w out words room fits = rw (le-ltb (length words) 2 room) (five (eqb (length (w .counts)) 5))
+-- where as many bytes are lent as either form's writing has, and two answer words, 3 is not answered
+pub not-short : (form : File → List ℕ) (w : Words) (out words : List ℕ) → 2 ≤ length words → (ordered.Given w → length (form (fileIn w)) ≤ length out)
+    → seenBy (λ v. writtenAs (checked v 0) (form (fileIn v))) w out words .number ≢ 3
+unfolding seenBy
+not-short form w out words room fits = rw (le-ltb (length words) 2 room) (five (eqb (length (w .counts)) 5))
   where
-    go : (c : Checked) → checked w 0 ≡ c → writtenNumber (writtenAs c (fileOf (fileIn w)) out .answer) ≢ 3
-    go Fits e = rw (le-ltb (length out) (length (fileOf (fileIn w))) (fits (fits-exactly w 0 .0 e .0))) (omega arith)
+    go : (c : Checked) → checked w 0 ≡ c → writtenNumber (writtenAs c (form (fileIn w)) out .answer) ≢ 3
+    go Fits e = rw (le-ltb (length out) (length (form (fileIn w))) (fits (fits-exactly w 0 .0 e .0))) (omega arith)
     go (Faulty lent.TooBig) e = omega arith
     go (Faulty lent.Misshapen) e = omega arith
     go (Faulty (lent.Over l)) e = omega arith
@@ -155,15 +148,17 @@ not-short w out words room fits = rw (le-ltb (length words) 2 room) (five (eqb (
     go (Faulty (lent.Disordered l)) e = omega arith
     go (Faulty lent.Short) e = absurd (exactly w 0 (Faulty lent.Short) .0 e)
 
-    five : (b : Bool) → asSeen (cond b (writtenAs (checked w 0) (fileOf (fileIn w)) out) (wrote (Unwritten lent.Misshapen 0) out)) words .number ≢ 3
+    five : (b : Bool) → asSeen (cond b (writtenAs (checked w 0) (form (fileIn w)) out) (wrote (Unwritten lent.Misshapen 0) out)) words .number ≢ 3
     five true = go (checked w 0) refl
     five false = omega arith
 
 -- so with 76 + 8 (V + L + R + J) bytes it is not, and with 33,554,476 bytes it never is
 pub enough-bytes : (w : Words) (out words : List ℕ) → 2 ≤ length words
     → 76 + 8 * (variablesOf (circuitIn w) + length (w .nexts) + length (w .roots) + length (w .sizes)) ≤ length out → writeSeen w out words .number ≢ 3
-enough-bytes w out words room h = not-short w out words room (λ g. omega (arith, file-most w g, h))
+unfolding writing
+enough-bytes w out words room h = not-short fileOf w out words room (λ g. omega (arith, file-most w g, h))
 
 pub never-three-written : (w : Words) (out words : List ℕ) → 2 ≤ length words → 33554476 ≤ length out → writeSeen w out words .number ≢ 3
+unfolding writing
 never-three-written w out words room h =
-    not-short w out words room (λ g. omega (arith, file-most w g, h, g .ordered .variables, g .ordered .few, g .sets))
+    not-short fileOf w out words room (λ g. omega (arith, file-most w g, h, g .ordered .variables, g .ordered .few, g .sets))

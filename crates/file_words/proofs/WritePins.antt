@@ -12,32 +12,32 @@ use Rattle.ordered.specs.declared.given.Fault.the-variants.{TooBig, Misshapen, 
 use Rattle.ordered.specs.Check.{Words, tooLarge, uneven, checked}
 use Rattle.binary.specs.declared.FileWritten.the-variants.{Written, Unwritten}
 use Rattle.binary.specs.Write.{partsOf, writing}
-use Rattle.file_words.specs.Write.{Seen, writtenNumber, writtenWords, writeSeen}
+use Rattle.file_words.specs.Write.{Seen, firstNumber, firstWords, writtenNumber, writtenWords, seenBy, writeSeen}
 
 -- inputs, counts, next states, resets, gates, sizes, roots
-abbrev givenWith : ℕ → List ℕ → List ℕ → List ℕ → List ℕ → List ℕ → List ℕ → Words
+abbrev pub givenWith : ℕ → List ℕ → List ℕ → List ℕ → List ℕ → List ℕ → List ℕ → Words
 givenWith inputs counts nexts resets gates sizes roots =
     record { inputs = inputs; counts = counts; nexts = nexts; resets = resets; gates = gates; sizes = sizes; roots = roots }
 
 -- the same with every reset 0
-abbrev given : ℕ → List ℕ → List ℕ → List ℕ → List ℕ → List ℕ → Words
+abbrev pub given : ℕ → List ℕ → List ℕ → List ℕ → List ℕ → List ℕ → Words
 given inputs counts nexts gates sizes roots = givenWith inputs counts nexts (replicate (length nexts) 0) gates sizes roots
 
 -- what C sees: the number, the lent bytes, the answer words
-abbrev sees : ℕ → List ℕ → List ℕ → Seen
+abbrev pub sees : ℕ → List ℕ → List ℕ → Seen
 sees number bytes words = record { number = number; bytes = bytes; words = words }
 
 -- two inputs, a latch, gates 8(6,2) and 10(8,3), a root of each kind and a second justice literal of the one set
-abbrev counts : List ℕ
+abbrev pub counts : List ℕ
 counts = 1 ∷ 1 ∷ 1 ∷ 1 ∷ 2 ∷ []
 
-abbrev gates : List ℕ
+abbrev pub gates : List ℕ
 gates = 6 ∷ 2 ∷ 8 ∷ 3 ∷ []
 
-abbrev roots : List ℕ
+abbrev pub roots : List ℕ
 roots = 10 ∷ 9 ∷ 3 ∷ 7 ∷ 6 ∷ 11 ∷ []
 
-abbrev small : Words
+abbrev pub small : Words
 small = given 2 counts (8 ∷ []) gates (2 ∷ []) roots
 
 -- aig 5 2 1 1 2 1 1 1 1, latch 8, output 10, bad 9, constraint 3, size 2, justice 6 and 11, fairness 7, then the gates: 44 bytes
@@ -47,11 +47,11 @@ smallBytes =
     51 ∷ 10 ∷ 50 ∷ 10 ∷ 54 ∷ 10 ∷ 49 ∷ 49 ∷ 10 ∷ 55 ∷ 10 ∷ 2 ∷ 4 ∷ 2 ∷ 5 ∷ []
 
 -- three answer words
-abbrev three : List ℕ
+abbrev pub three : List ℕ
 three = 51 ∷ 52 ∷ 53 ∷ []
 
 -- a refusal where n bytes are lent: its number, the literal at fault and the bytes needed; no byte is written, and the third word stays
-abbrev refused : ℕ → ℕ → ℕ → ℕ → Seen
+abbrev pub refused : ℕ → ℕ → ℕ → ℕ → Seen
 refused n number literal needed = sees number (replicate n 7) (literal ∷ needed ∷ 53 ∷ [])
 
 -- each answer as a number and two words
@@ -72,6 +72,19 @@ pub written-words-pinned :
     × (writtenWords (Unwritten Short 99) ≡ 0 ∷ 99 ∷ [])
 written-words-pinned = (refl, refl, refl, refl, refl, refl, refl, refl, refl, refl, refl, refl, refl, refl)
 
+-- what is refused first, as a number and the answer words after it
+pub first-pinned :
+    (firstNumber counts three ≡ 0) × (firstWords counts three ≡ three)
+    × (firstNumber counts (51 ∷ 52 ∷ []) ≡ 0) × (firstWords counts (51 ∷ 52 ∷ []) ≡ 51 ∷ 52 ∷ [])
+    × (firstNumber (1 ∷ 1 ∷ 1 ∷ 3 ∷ []) three ≡ 2) × (firstWords (1 ∷ 1 ∷ 1 ∷ 3 ∷ []) three ≡ 0 ∷ 0 ∷ 53 ∷ [])
+    × (firstNumber (1 ∷ 1 ∷ 1 ∷ 1 ∷ 2 ∷ 0 ∷ []) three ≡ 2) × (firstWords (1 ∷ 1 ∷ 1 ∷ 1 ∷ 2 ∷ 0 ∷ []) three ≡ 0 ∷ 0 ∷ 53 ∷ [])
+    × (firstNumber (1 ∷ 1 ∷ 1 ∷ 3 ∷ []) (51 ∷ 52 ∷ []) ≡ 2) × (firstWords (1 ∷ 1 ∷ 1 ∷ 3 ∷ []) (51 ∷ 52 ∷ []) ≡ 0 ∷ 0 ∷ [])
+    × (firstNumber [] three ≡ 2) × (firstWords [] three ≡ 0 ∷ 0 ∷ 53 ∷ [])
+    × (firstNumber [] (51 ∷ []) ≡ 3) × (firstWords [] (51 ∷ []) ≡ 51 ∷ [])
+    × (firstNumber counts (51 ∷ []) ≡ 3) × (firstWords counts (51 ∷ []) ≡ 51 ∷ [])
+unfolding firstNumber firstWords
+first-pinned = (refl, refl, refl, refl, refl, refl, refl, refl, refl, refl, refl, refl, refl, refl, refl, refl)
+
 -- circuits that are written
 pub written-pinned :
     -- two bytes and a word more than asked, which stay
@@ -87,7 +100,7 @@ pub written-pinned :
     -- aig 101 100 0 0 1, and the gate 202(10,10): a delta of two bytes, and one of zero
     × (writeSeen (given 100 (replicate 5 0) [] (10 ∷ 10 ∷ []) [] []) (replicate 22 7) three
     ≡ sees 0 (97 ∷ 105 ∷ 103 ∷ 32 ∷ 49 ∷ 48 ∷ 49 ∷ 32 ∷ 49 ∷ 48 ∷ 48 ∷ 32 ∷ 48 ∷ 32 ∷ 48 ∷ 32 ∷ 49 ∷ 10 ∷ 192 ∷ 1 ∷ 0 ∷ 7 ∷ []) (0 ∷ 21 ∷ 53 ∷ []))
-unfolding writeSeen writing checked tooLarge uneven firstCode partsOf afterTag countBytes resetBytes latchBytes lineBytes rootsBytes digitsOf shortest
+unfolding seenBy writing checked tooLarge uneven firstCode partsOf afterTag countBytes resetBytes latchBytes lineBytes rootsBytes digitsOf shortest
 written-pinned = (refl, refl, refl, refl, refl)
 
 -- each refusal, alone and with those that come after it
@@ -129,7 +142,7 @@ pub write-refusals-pinned :
     -- 3: a byte too few, and none at all; the bytes needed are told
     × (writeSeen small (replicate 43 7) three ≡ refused 43 3 0 44)
     × (writeSeen small [] three ≡ refused 0 3 0 44)
-unfolding writeSeen writing checked tooLarge uneven firstCode partsOf afterTag countBytes resetBytes latchBytes lineBytes rootsBytes digitsOf shortest
+unfolding seenBy writing checked tooLarge uneven firstCode partsOf afterTag countBytes resetBytes latchBytes lineBytes rootsBytes digitsOf shortest
 write-refusals-pinned = (
   refl,
   refl,

@@ -39,14 +39,17 @@ abbrev pub firstWord : FileAnswer → ℕ
 firstWord (Taken used) = used
 firstWord (Refused why place) = place
 
--- the eleven answer words: after the first M = I + L + A, I, L, A, the five root counts in walk order, the number of justice sets
-abbrev pub answerWords : FileRead → List ℕ
-answerWords r =
-    firstWord (r .answer) ∷ (r .inputs + r .latches + r .gates) ∷ r .inputs ∷ r .latches ∷ r .gates ∷ (r .counts ++ r .sets ∷ [])
+-- M of a binary file: I + L + A
+abbrev pub topOf : FileRead → ℕ
+topOf r = r .inputs + r .latches + r .gates
+
+-- the eleven answer words: after the first M, I, L, A, the five root counts in walk order, the number of justice sets
+abbrev pub answerWords : ℕ → FileRead → List ℕ
+answerWords top r = firstWord (r .answer) ∷ top ∷ r .inputs ∷ r .latches ∷ r .gates ∷ (r .counts ++ r .sets ∷ [])
 
 -- an outcome as C sees it; words past the eleventh stay
 abbrev pub asSeen : Outcome → List ℕ → Seen
-asSeen o words = seenOf (fileNumber (o .read .answer)) (o .lists) (onto (answerWords (o .read)) words)
+asSeen o words = seenOf (fileNumber (o .read .answer)) (o .lists) (onto (answerWords (topOf (o .read)) (o .read)) words)
 
 -- fewer than eleven answer words is refusal 3, tested first, and leaves every list; else it is the outcome of reading the bytes into the lists
 unfoldable pub readSeen : List ℕ → Lists → List ℕ → Seen

@@ -1,4 +1,4 @@
--- What the C entry for writing a binary file answers, and what it leaves in the lent bytes and words. Assumes nothing.
+-- What a C entry for writing a file answers, and what it leaves in the lent bytes and words: of either form, and of the binary one. Assumes nothing.
 use Prim.Native.Nat.{ℕ}
 use mathlib.Core.Bool.{cond}
 use mathlib.Core.List.{List, [], _∷_}
@@ -43,9 +43,20 @@ writtenWords (Unwritten why needed) = faultLiteral why ∷ needed ∷ []
 abbrev pub asSeen : Writing → List ℕ → Seen
 asSeen w words = seenOf (writtenNumber (w .answer)) (w .bytes) (onto (writtenWords (w .answer)) words)
 
+-- what is refused before there is a circuit to check, as a number that is 0 where nothing is; and the answer words after it
+unfoldable pub firstNumber : List ℕ → List ℕ → ℕ
+firstNumber counts words = cond (ltb (length words) 2) 3 (cond (eqb (length counts) 5) 0 2)
+
+unfoldable pub firstWords : List ℕ → List ℕ → List ℕ
+firstWords counts words = cond (ltb (length words) 2) words (cond (eqb (length counts) 5) words (onto (0 ∷ 0 ∷ []) words))
+
 -- fewer than two answer words is refusal 3, tested first, and leaves everything; then counts that are not five are refusal 2, and leave the bytes; else it is
--- what writing the circuit into the bytes does
-unfoldable pub writeSeen : Words → List ℕ → List ℕ → Seen
-writeSeen w out words =
+-- what writing the circuit into the bytes does, by the form's own writing
+unfoldable pub seenBy : (Words → List ℕ → Writing) → Words → List ℕ → List ℕ → Seen
+seenBy form w out words =
     cond (ltb (length words) 2) (seenOf 3 out words)
-    (asSeen (cond (eqb (length (w .counts)) 5) (writing w out) (wrote (Unwritten Misshapen 0) out)) words)
+    (asSeen (cond (eqb (length (w .counts)) 5) (form w out) (wrote (Unwritten Misshapen 0) out)) words)
+
+-- of a binary file
+abbrev pub writeSeen : Words → List ℕ → List ℕ → Seen
+writeSeen w out words = seenBy writing w out words

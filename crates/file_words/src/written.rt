@@ -4,7 +4,7 @@ ghost use mathlib.Core.List.{[], _∷_};
 ghost use Prim.Native.Nat.{_≤_};
 ghost use lib.ListN.{length};
 ghost use Rattle.circuit.specs.Outcome.{onto};
-ghost use Rattle.file_words.specs.Write.{shapeOf, writtenNumber, writtenWords};
+ghost use Rattle.file_words.specs.Write.{shapeOf, firstNumber, firstWords, writtenNumber, writtenWords};
 use binary::FileWritten;
 use ordered::given::Shape;
 use ordered::given::fault_literal;
@@ -22,12 +22,28 @@ pub fn shape_of(inputs: u32, counts: &[u32]) -> Shape
 }
 
 // The literal at fault and a number of bytes in the first two words.
-pub fn put_words(words: &mut [u64], literal: u64, count: u64)
+fn put_words(words: &mut [u64], literal: u64, count: u64)
     requires { ⌜ 2 ≤ length (now words) ⌝ }
     ensures { λ _. ⌜ now (words .exit) ≡ onto (literal ∷ count ∷ []) (now (words .entry)) ⌝ }
 {
     words[0] = literal;
     words[1] = count;
+}
+
+// What is refused before there is a circuit to check: 3 where there are fewer than two answer words, which stay; then 2 where the counts are not five, and
+// the answer words say nothing; else 0, and they stay.
+pub fn refused_first(counts: &[u32], answer: &mut [u64]) -> u32
+    ensures { λ r. ⌜ (r ≡ firstNumber (now (counts .entry)) (now (answer .entry)))
+        × (now (answer .exit) ≡ firstWords (now (counts .entry)) (now (answer .entry))) ⌝ }
+{
+    if answer.len() < 2 {
+        return 3;
+    }
+    if counts.len() != 5 {
+        put_words(answer, 0, 0);
+        return 2;
+    }
+    0
 }
 
 // The answer's number, and its two words in the lent ones.

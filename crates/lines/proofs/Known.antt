@@ -1,15 +1,15 @@
 -- What holds of lines, latch lines and a root section that are read: how many there are, and that each literal is within the limit. Assumes nothing.
 use Prim.Native.Nat.{ℕ, _+_, _*_, _≤_}
-use mathlib.Core.Path.{_≡_, refl, _∙_, subst}
+use mathlib.Core.Path.{_≡_, _∙_, subst}
 use mathlib.Core.Bool.{Bool, true, false, cond}
 use mathlib.Core.Logic.{_⊎_, inl, inr}
-use mathlib.Core.List.{List, [], _∷_, _++_, map}
+use mathlib.Core.List.{List, _++_, map}
 use native.Mathlib.Omega.{arith}
 use lib.ListN.{length, length-append, length-map}
 use Rattle.circuit.specs.Graph.{In}
 use Rattle.circuit.specs.Outcome.{limit, total}
 use Rattle.circuit.specs.Claims.{AllWithin}
-use Rattle.circuit.proofs.Lists.{In-cases}
+use Rattle.circuit.proofs.Lists.{In-cases, In-unmap}
 use Rattle.lines.specs.declared.Header.{Header}
 use Rattle.lines.specs.Reading.{Read, got, _▸_}
 use Rattle.lines.specs.Lines.{isByte, spaceAt, newlineAt, numberAt, lineAt, linesAt}
@@ -46,7 +46,7 @@ reset-within s most own at r end e = go (isByte s 32 at) e
     go true f = let t = two (spaceAt s at) (λ _ at₁. resetLineAt s most own at₁) r end f in reset-line-within s most own (t .place) r end (t .then)
     go false f = let t = two (newlineAt s at) (λ _ at₁. got 0 at₁) r end f in omega (arith, got-same (t .then))
 
-latch-within : (s : List ℕ) (most own at : ℕ) (l : LatchLine) (end : ℕ) → latchAt s most own at ≡ got l end → (l .next ≤ most) × (l .reset ≤ most)
+pub latch-within : (s : List ℕ) (most own at : ℕ) (l : LatchLine) (end : ℕ) → latchAt s most own at ≡ got l end → (l .next ≤ most) × (l .reset ≤ most)
 unfolding latchAt
 latch-within s most own at l end e =
     let t = two (numberAt s most at) (λ v at₁. resetAt s most own at₁ ▸ λ r at₂. got (latchLine v r) at₂) l end e in
@@ -55,10 +55,8 @@ latch-within s most own at l end e =
     (number-within s most at (t .first) (t .place) (t .read), reset-within s most own (t .place) (u .first) (u .place) (u .read))
 
 -- what holds of each line's number holds of each number of their list
-each-within : (most : ℕ) (f : LatchLine → ℕ) (ls : List LatchLine) → ((l : LatchLine) → In l ls → f l ≤ most) → AllWithin most (map f ls)
-each-within most f [] within v i = absurd i
-each-within most f (l ∷ ls) within v (inl e) = omega (arith, e, within l (inl refl))
-each-within most f (l ∷ ls) within v (inr i) = each-within most f ls (λ k j. within k (inr j)) v i
+pub each-of : {A : Type 0} (P : ℕ → Type 0) (f : A → ℕ) (ls : List A) → ((l : A) → In l ls → P (f l)) → (v : ℕ) → In v (map f ls) → P v
+each-of P f ls holds v i = let (l, j, e) = In-unmap f v ls i in subst P e (holds l j)
 
 module _ (s : List ℕ) (most first n at : ℕ) (ls : List LatchLine) (end : ℕ) (e : latchesAt s most first n at ≡ got ls end) where
   latches-within : (l : LatchLine) → In l ls → (l .next ≤ most) × (l .reset ≤ most)
@@ -68,10 +66,10 @@ module _ (s : List ℕ) (most first n at : ℕ) (ls : List LatchLine) (end : ℕ
       (λ k p l q f. latch-within s most (first + 2 * k) p l q f) 0 n at ls end e
 
   pub nexts-within : AllWithin most (nextsOf ls)
-  nexts-within = each-within most (λ l. l .next) ls (λ l i. latches-within l i .0)
+  nexts-within = each-of (λ v. v ≤ most) (λ l. l .next) ls (λ l i. latches-within l i .0)
 
   pub resets-within : AllWithin most (resetsOf ls)
-  resets-within = each-within most (λ l. l .reset) ls (λ l i. latches-within l i .1)
+  resets-within = each-of (λ v. v ≤ most) (λ l. l .reset) ls (λ l i. latches-within l i .1)
 
   pub latches-length : length ls ≡ n
   unfolding latchesAt

@@ -45,7 +45,7 @@ never-row thing each k (suc n) at =
 
 -- bytes, numbers, lines
 
-never-byte : (s : List ℕ) (b at : ℕ) → Never (byteAt s b at)
+pub never-byte : (s : List ℕ) (b at : ℕ) → Never (byteAt s b at)
 unfolding byteAt
 never-byte s b at = go (isByte s b at)
   where
@@ -53,13 +53,13 @@ never-byte s b at = go (isByte s b at)
     go true = never-got tt (at + 1)
     go false = never-no Missing at (λ w. let z : _≡_ {A = ℕ} 0 1 = cc in omega arith)
 
+pub never-token : (at : ℕ) (t : Token) → Never (numberOf at t)
+never-token at (Value v used) = never-got v (at + used)
+never-token at (Refused why p) = never-no (Number why) p (λ w. let z : _≡_ {A = ℕ} 0 1 = cc in omega arith)
+
 never-number : (s : List ℕ) (most at : ℕ) → Never (numberAt s most at)
 unfolding numberAt
-never-number s most at = go (headerFieldAt s at most)
-  where
-    go : (t : Token) → Never (numberOf at t)
-    go (Value v used) = never-got v (at + used)
-    go (Refused why p) = never-no (Number why) p (λ w. let z : _≡_ {A = ℕ} 0 1 = cc in omega arith)
+never-number s most at = never-token at (headerFieldAt s at most)
 
 never-line : (s : List ℕ) (most at : ℕ) → Never (lineAt s most at)
 unfolding lineAt
@@ -89,7 +89,7 @@ never-reset s most own at = go (isByte s 32 at)
     go true = never-then (spaceAt s at) (λ _ at₁. resetLineAt s most own at₁) (never-byte s 32 at) (λ _ at₁ _. never-reset-line s most own at₁)
     go false = never-then (newlineAt s at) (λ _ at₁. got 0 at₁) (never-byte s 10 at) (λ _ at₁ _. never-got 0 at₁)
 
-never-latch : (s : List ℕ) (most own at : ℕ) → Never (latchAt s most own at)
+pub never-latch : (s : List ℕ) (most own at : ℕ) → Never (latchAt s most own at)
 unfolding latchAt
 never-latch s most own at =
     never-then (numberAt s most at) (λ v at₁. resetAt s most own at₁ ▸ λ r at₂. got (latchLine v r) at₂) (never-number s most at)
@@ -102,7 +102,7 @@ never-latches s most first n at = never-row (λ k. latchAt s most (first + 2 * k
 
 -- the header
 
-never-count : (s : List ℕ) (most at : ℕ) → Never (countAt s most at)
+pub never-count : (s : List ℕ) (most at : ℕ) → Never (countAt s most at)
 unfolding countAt
 never-count s most at = never-then (spaceAt s at) (λ _ at₁. numberAt s most at₁) (never-byte s 32 at) (λ _ at₁ _. never-number s most at₁)
 

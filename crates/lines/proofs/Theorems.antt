@@ -18,8 +18,14 @@ use Rattle.lines.specs.Stray.{Stray}
 use Rattle.lines.proofs.Resets.{stray-exactly, latches-no-stray}
 use Rattle.lines.proofs.fault_number.Kinds as number-kinds
 use Rattle.lines.proofs.fault_number.Reads as number-contract
+use Rattle.lines.proofs.byte.Kinds as byte-kinds
+use Rattle.lines.proofs.byte.Reads as byte-contract
+use Rattle.lines.proofs.latch.Kinds as latch-kinds
+use Rattle.lines.proofs.latch.Reads as latch-contract
 use Rattle.lines.proofs.latches.Kinds as latches-kinds
 use Rattle.lines.proofs.latches.Reads as latches-contract
+use Rattle.lines.proofs.count.Kinds as count-kinds
+use Rattle.lines.proofs.count.Reads as count-contract
 use Rattle.lines.proofs.read_header.Kinds as header-kinds
 use Rattle.lines.proofs.read_header.Reads as header-contract
 use Rattle.lines.proofs.roots.Kinds as roots-kinds
@@ -30,9 +36,18 @@ use Rattle.lines.proofs.roots.Reads as roots-contract
 pub one-fault-number : Determines 0 number-kinds.ps number-kinds.r number-contract.Learnt
 one-fault-number κs a x y e f p q = p ∙ sym q
 
+pub one-byte : Determines 1 byte-kinds.ps byte-kinds.r byte-contract.Learnt
+one-byte κs a x y e f p q = p ∙ sym q
+
+pub one-latch : Determines 1 latch-kinds.ps latch-kinds.r latch-contract.Learnt
+one-latch κs a x y e f p q = p ∙ sym q
+
 pub one-latches : DeterminesCells 3 latches-kinds.ps latches-kinds.r latches-contract.Learnt {A = LatchLists}
     (λ κs e. latchLists (now (e .1 .1 .1 .1 .1 .0)) (now (e .1 .1 .1 .1 .1 .1 .0)))
 one-latches κs a x y e f p q = (ap (λ (o : LatchesLeft). o .answer) (p ∙ sym q), ap (λ (o : LatchesLeft). o .lists) (p ∙ sym q))
+
+pub one-count : Determines 1 count-kinds.ps count-kinds.r count-contract.Learnt
+one-count κs a x y e f p q = p ∙ sym q
 
 pub one-read-header : Determines 1 header-kinds.ps header-kinds.r header-contract.Learnt
 one-read-header κs a x y e f p q = p ∙ sym q

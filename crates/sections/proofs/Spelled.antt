@@ -66,7 +66,7 @@ reset-spelled most own r within fits may = go (eqb r 0) refl
     go true e = inr (at-last (λ _. 0) tt refl (eqb-true r 0 e))
     go false e = inl (in-a-row tt (32 ∷ []) (digitsOf r ++ (10 ∷ [])) refl (may, (within, fits, refl)))
 
-latch-spelled : (most own : ℕ) (l : LatchLine) → l .next ≤ most → l .reset ≤ most → most < 2 ^ 64 → IsReset own (l .reset)
+pub latch-spelled : (most own : ℕ) (l : LatchLine) → l .next ≤ most → l .reset ≤ most → most < 2 ^ 64 → IsReset own (l .reset)
     → Latch most own l (latchBytes (l .next) (l .reset))
 unfolding latchBytes
 latch-spelled most own l low small fits may =
@@ -74,7 +74,7 @@ latch-spelled most own l low small fits may =
     (at-last (latchLine (l .next)) (l .reset) (reset-spelled most own (l .reset) small (omega arith) may) refl)
 
 -- where no reset of a list is a stray, the first is none, and the others are not
-passes : (own r : ℕ) (owns rs : List ℕ) → firstStray (own ∷ owns) (r ∷ rs) ≡ none → (isReset own r ≡ true) × (firstStray owns rs ≡ none)
+pub passes : (own r : ℕ) (owns rs : List ℕ) → firstStray (own ∷ owns) (r ∷ rs) ≡ none → (isReset own r ≡ true) × (firstStray owns rs ≡ none)
 passes own r owns rs e = go (isReset own r) e
   where
     go : (t : Bool) → cond t (firstStray owns rs) (some r) ≡ none → (t ≡ true) × (firstStray owns rs ≡ none)
@@ -134,7 +134,7 @@ lists-spelled most first ns rs e low small fits pass =
 
 -- the header
 
-count-spelled : (most v : ℕ) → v ≤ most → v < 2 ^ 64 → Count most v (countBytes v)
+pub count-spelled : (most v : ℕ) → v ≤ most → v < 2 ^ 64 → Count most v (countBytes v)
 unfolding countBytes
 count-spelled most v within fits = in-a-row tt (32 ∷ []) (digitsOf v) refl (within, fits, refl)
 

@@ -7,7 +7,7 @@ use mathlib.Core.Option.{none}
 use mathlib.Core.List.{List, _++_}
 use lib.ListN.{length}
 use denote.Ref.{now}
-use Rattle.promise.specs.Determined.{DeterminesCells}
+use Rattle.promise.specs.Determined.{Determines, DeterminesCells}
 use Rattle.circuit.specs.Circuit.{firstStray}
 use Rattle.circuit.specs.Ordered.{countFrom}
 use Rattle.circuit.specs.Outcome.{limit, total}
@@ -33,10 +33,12 @@ use Rattle.sections.proofs.put_latches.Kinds as latches-kinds
 use Rattle.sections.proofs.put_latches.Reads as latches-contract
 use Rattle.sections.proofs.put_header.Kinds as header-kinds
 use Rattle.sections.proofs.put_header.Reads as header-contract
+use Rattle.sections.proofs.smaller.Kinds as smaller-kinds
+use Rattle.sections.proofs.smaller.Reads as smaller-contract
 use Rattle.sections.proofs.put_roots.Kinds as roots-kinds
 use Rattle.sections.proofs.put_roots.Reads as roots-contract
 
--- 1. Each contract determines the place answered and every lent byte afterwards.
+-- 1. Each contract determines the place answered and every lent byte afterwards; and which of two numbers is the smaller.
 
 pub one-put-line : DeterminesCells 1 line-kinds.ps line-kinds.r line-contract.Learnt (λ κs e. now (e .0))
 one-put-line κs a x y e f p q = (p .1 ∙ sym (q .1), p .0 ∙ sym (q .0))
@@ -58,6 +60,9 @@ one-put-header κs a x y e f p q = (p .1 ∙ sym (q .1), p .0 ∙ sym (q .0))
 
 pub one-put-roots : DeterminesCells 3 roots-kinds.ps roots-kinds.r roots-contract.Learnt (λ κs e. now (e .0))
 one-put-roots κs a x y e f p q = (p .1 ∙ sym (q .1), p .0 ∙ sym (q .0))
+
+pub one-smaller : Determines 0 smaller-kinds.ps smaller-kinds.r smaller-contract.Learnt
+one-smaller κs a x y e f p q = p ∙ sym q
 
 -- 2. What is written spells what it is of, as the format says it forwards: lines, latch lines, the header after its tag, the root section.
 

@@ -132,7 +132,7 @@ pub fn put_header(out: &mut [u8], at: usize, tag: &[u8], h: Header) -> usize
 }
 
 // The smaller of two numbers.
-fn smaller(x: usize, y: usize) -> usize
+pub fn smaller(x: usize, y: usize) -> usize
     ensures { λ r. ⌜ r ≡ min x y ⌝ }
 {
     if x < y { x } else { y }

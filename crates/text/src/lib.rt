@@ -50,14 +50,14 @@ fn few_digits(v: u64) -> usize
     requires { ⌜ v < 10000000 ⌝ }
     ensures { λ r. ⌜ r ≡ length (digitsOf v) ⌝ }
 {
-    if 10000 <= v {
-        if v < 100000 {
-            return 5;
-        }
+    if 100000 <= v {
         if v < 1000000 {
             return 6;
         }
         return 7;
+    }
+    if 10000 <= v {
+        return 5;
     }
     if v < 10 {
         return 1;

@@ -105,6 +105,17 @@ digit-tested s at h low = go (leb (getD s at 0) 57) refl
         )
     go false e = rw (digits-none s at (getD s at 0) h refl (digit-over (getD s at 0) (leb-false (getD s at 0) 57 e)))
 
+-- whether one digit more is too much: below a tenth of the largest number it is not; and what the test says
+
+pub over-not : (v d : ℕ) → d ≤ 9 → v < 1844674407370955161 → false ≡ ltb ((18446744073709551615 - d) / 10) v
+over-not v d small low = sym (le-ltb ((18446744073709551615 - d) / 10) v (omega arith))
+
+pub over-false : {t : Bool} (v d : ℕ) → t ≡ ltb ((18446744073709551615 - d) / 10) v → t ≡ false → v ≤ (18446744073709551615 - d) / 10
+over-false v d told left = ltb-false ((18446744073709551615 - d) / 10) v (sym told ∙ left)
+
+pub over-true : {t : Bool} (v d : ℕ) → t ≡ ltb ((18446744073709551615 - d) / 10) v → t ≡ true → (18446744073709551615 - d) / 10 < v
+over-true v d told taken = ltb-true ((18446744073709551615 - d) / 10) v (sym told ∙ taken)
+
 -- a loop over the digits at a place: n of them are passed, and write v
 
 pub record DigitsPassed (s : List ℕ) (at n v : ℕ) : Type 0 where
@@ -166,7 +177,7 @@ module _ {s : List ℕ} {at n v : ℕ} (p : DigitsPassed s at n v) where
           let here : n < length (drop at s) = simp length-drop (omega (arith, digit-there)) in
           rw (digit, ← getD-drop at s n 0, p .means) (sym (decimal-next (drop at s) n here))
 
-      pub digit-small : d ≤ 18446744073709551615
+      pub digit-small : d ≤ 9
       digit-small = omega (arith, digit-is)
 
       -- it fits

@@ -2,7 +2,7 @@
 // deltas. A place past the end reads as the end. A refusal consumes nothing and names the place given; in a pair, the first byte of the delta
 // that caused it.
 ghost use mathlib.Core.Path.{_≡_};
-ghost use Prim.Native.Nat.{_≤_};
+ghost use Prim.Native.Nat.{_-_, _/_, _≤_};
 ghost use lib.Dec.{ltb};
 ghost use lib.ListN.{length, take, drop};
 ghost use Rattle.token.specs.Format.{decimalValue};
@@ -82,6 +82,17 @@ fn digit_at(s: &[u8], at: usize) -> bool
     b <= b'9'
 }
 
+// Whether a number with one digit more does not fit 64 bits. Below a tenth of the largest it does, whatever the digit: that is tested without a division.
+fn is_over(v: u64, d: u64) -> bool
+    requires { ⌜ d ≤ 9 ⌝ }
+    ensures { λ r. ⌜ r ≡ ltb ((18446744073709551615 - d) / 10) v ⌝ }
+{
+    if v < LARGEST / 10 {
+        return false;
+    }
+    (LARGEST - d) / 10 < v
+}
+
 // The number that the digits at a place write, which has to fit 64 bits.
 fn decimal(s: &[u8], at: usize) -> Token
     requires { ⌜ at ≤ length (now s) ⌝ }
@@ -91,7 +102,7 @@ fn decimal(s: &[u8], at: usize) -> Token
     let mut v: u64 = 0;
     while digit_at(s, at + n) {
         let d = wide(s[at + n] - b'0');
-        if (LARGEST - d) / 10 < v {
+        if is_over(v, d) {
             return Token::Refused {
                 why: Reason::OverWidth,
                 place: at,

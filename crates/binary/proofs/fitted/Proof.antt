@@ -1,16 +1,15 @@
 -- `binary::fitted` meets its contract: where more bytes are lent than any such file has, it is written; else it is measured by its writer on no bytes, and
 -- written where it fits. Assumes nothing.
 use Prim.Native.Nat.{ℕ}
-use mathlib.Core.Path.{_≡_, refl, ap, _∙_}
+use mathlib.Core.Path.{refl, ap, _∙_}
 use mathlib.Core.List.{List, [], _++_}
 use native.Mathlib.Omega.{arith}
 use lib.ListN.{length}
 use denote.Ref.{now}
-use Rattle.text.specs.Put.{putAll}
 use Rattle.ordered.specs.declared.given.Fault.the-variants.{Short}
 use Rattle.binary.specs.declared.FileWritten.the-variants.{Unwritten}
 use Rattle.binary.specs.Write.{wrote}
-use Rattle.binary.proofs.Fitting.{few, ready, its-header, its-top, countable, roomy, measured, none-put, too-short, whole}
+use Rattle.binary.proofs.Fitting.{few, ready, its-header, its-top, countable, roomy, its-parts, file-ends, measured, none-put, too-short, whole}
 use borrow.Author.Needs.{needs}
 use Rattle.binary.proofs.fitted.Statement.{statement}
 use Rattle.binary.proofs.fitted.Tie as tie
@@ -44,11 +43,12 @@ returns c =
     let wideAt = mostAt .before in
     let headerAt = wideAt .before in
     let entry = headerAt .before .before .before .before .before .before .before in
-    let h = its-header _ (entry .pre) (headerAt .header-for .result) (headerAt .header-for .ensures) in
+    let made = headerAt .header-for .result in
+    let same = its-parts _ (entry .pre) made (its-header _ (entry .pre) made (headerAt .header-for .ensures)) in
     let top = its-top _ (entry .pre) (headerAt .header-for .result) (headerAt .header-for .ensures) (wideAt .wide .result) (wideAt .wide .ensures) in
-    let n = measured _ (entry .pre) (headerAt .header-for .result) h (writtenAt .put-file .result) (writtenAt .put-file .ensures .1) in
+    let n = measured same (file-ends _ (entry .pre)) (writtenAt .put-file .result) (writtenAt .put-file .ensures .1) in
     let room = roomy _ (entry .pre) (wideAt .wide .result) (mostAt .most-bytes .result) top (mostAt .most-bytes .ensures) in
-    whole _ (entry .pre) (headerAt .header-for .result) h [] (now (entry .args .out)) _ (writtenAt .put-file .result) n (omega (arith, n, room)) refl
+    whole same [] (now (entry .args .out)) _ (writtenAt .put-file .result) n (omega (arith, n, room)) refl
     (writtenAt .put-file .ensures .0)
 
 slice-relend-prefix-put-file : tie.Need-slice-relend-prefix-put-file
@@ -71,11 +71,12 @@ returns-2 c =
     let fileAt = c .before .before .before in
     let headerAt = fileAt .before .before .before .before .before in
     let entry = headerAt .before .before .before .before .before .before .before in
-    let h = its-header _ (entry .pre) (headerAt .header-for .result) (headerAt .header-for .ensures) in
-    let n = measured _ (entry .pre) (headerAt .header-for .result) h (fileAt .put-file2 .result) (fileAt .put-file2 .ensures .1) in
-    let none = none-put _ (entry .pre) (headerAt .header-for .result) _ (fileAt .put-file2 .ensures .0) in
+    let made = headerAt .header-for .result in
+    let same = its-parts _ (entry .pre) made (its-header _ (entry .pre) made (headerAt .header-for .ensures)) in
+    let n = measured same (file-ends _ (entry .pre)) (fileAt .put-file2 .result) (fileAt .put-file2 .ensures .1) in
+    let none = none-put same _ (fileAt .put-file2 .ensures .0) in
     ap (λ (x : List ℕ). wrote (Unwritten Short (fileAt .put-file2 .result)) (x ++ now (entry .args .out))) none
-    ∙ too-short _ (entry .pre) (now (entry .args .out)) (fileAt .put-file2 .result) n (omega arith)
+    ∙ too-short same (now (entry .args .out)) (fileAt .put-file2 .result) n (omega arith)
 
 put-file-requires-3 : tie.Need-put-file-requires-3
 put-file-requires-3 c κs =
@@ -93,11 +94,12 @@ returns-3 c =
     let fileAt = shortAt .before .before .before in
     let headerAt = fileAt .before .before .before .before .before in
     let entry = headerAt .before .before .before .before .before .before .before in
-    let h = its-header _ (entry .pre) (headerAt .header-for .result) (headerAt .header-for .ensures) in
-    let n = measured _ (entry .pre) (headerAt .header-for .result) h (fileAt .put-file2 .result) (fileAt .put-file2 .ensures .1) in
-    let none = none-put _ (entry .pre) (headerAt .header-for .result) _ (fileAt .put-file2 .ensures .0) in
+    let made = headerAt .header-for .result in
+    let same = its-parts _ (entry .pre) made (its-header _ (entry .pre) made (headerAt .header-for .ensures)) in
+    let n = measured same (file-ends _ (entry .pre)) (fileAt .put-file2 .result) (fileAt .put-file2 .ensures .1) in
+    let none = none-put same _ (fileAt .put-file2 .ensures .0) in
     let long = ap (λ (x : List ℕ). length (x ++ now (entry .args .out))) none in
-    whole _ (entry .pre) (headerAt .header-for .result) h _ (now (entry .args .out)) _ (fileAt .put-file2 .result) n (omega (arith, long, shortAt .if2 .left))
+    whole same _ (now (entry .args .out)) _ (fileAt .put-file2 .result) n (omega (arith, long, shortAt .if2 .left))
     none (writtenAt .put-file3 .ensures .0)
 
 pub fitted-spec : {M : Type 1} → statement M

@@ -6,13 +6,13 @@ use Rattle.text.proofs.few_digits.Statement.{statement}
 use Rattle.text.proofs.few_digits.Tie as tie
 
 returns : tie.Need-returns
-returns c = sym (count-5 _ (omega arith) (omega arith))
+returns c = sym (count-6 _ (omega arith) (omega arith))
 
 returns-2 : tie.Need-returns-2
-returns-2 c = sym (count-6 _ (omega arith) (omega arith))
+returns-2 c = sym (count-7 _ (omega arith) (omega arith))
 
 returns-3 : tie.Need-returns-3
-returns-3 c = sym (count-7 _ (omega arith) (omega arith))
+returns-3 c = sym (count-5 _ (omega arith) (omega arith))
 
 returns-4 : tie.Need-returns-4
 returns-4 c = sym (count-1 _ (omega arith))

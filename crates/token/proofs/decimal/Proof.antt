@@ -2,7 +2,7 @@
 -- make a number larger, so one that no longer fits is refused at once. The measure is the bytes left. Assumes nothing.
 use Prim.Native.Nat.{_+_, _-_}
 use lib.ListN.{length}
-use Rattle.token.proofs.Decimals.{DigitsPassed, digits-passed-none, digits-passed-place, digits-passed-count, digits-passed-end, digit-there, digit-least, digit-nearer, digit-small, digit-tens, digit-added, digits-passed-digit, digits-passed-over}
+use Rattle.token.proofs.Decimals.{DigitsPassed, digits-passed-none, digits-passed-place, digits-passed-count, digits-passed-end, digit-there, digit-least, digit-nearer, digit-small, digit-tens, digit-added, digits-passed-digit, digits-passed-over, over-false, over-true}
 use Rattle.token.proofs.decimal.Statement.{statement}
 use Rattle.token.proofs.decimal.Tie as tie
 
@@ -42,8 +42,8 @@ sub-wide c =
 wide-requires : tie.Need-wide-requires Inv-loop μ-loop
 wide-requires c κs = tt
 
-sub-if2 : tie.Need-sub-if2 Inv-loop μ-loop
-sub-if2 c =
+is-over-requires : tie.Need-is-over-requires Inv-loop μ-loop
+is-over-requires c κs =
     let if1At = c .before .before in
     let digitAtAt = if1At .before in
     let loopAt = digitAtAt .before in
@@ -51,44 +51,52 @@ sub-if2 c =
 
 returns : tie.Need-returns Inv-loop μ-loop
 returns c =
-    let if1At = c .before .before .before in
+    let wideAt = c .before .before in
+    let if1At = wideAt .before .before in
     let digitAtAt = if1At .before in
     let loopAt = digitAtAt .before in
-    digits-passed-over (loopAt .loop .inv) (digitAtAt .digit-at .ensures) (if1At .if1 .taken) (c .before .wide .ensures) (c .if2 .taken)
+    digits-passed-over (loopAt .loop .inv) (digitAtAt .digit-at .ensures) (if1At .if1 .taken) (wideAt .wide .ensures)
+    (over-true _ _ (c .before .is-over .ensures) (c .if2 .taken))
 
 mul-v : tie.Need-mul-v Inv-loop μ-loop
 mul-v c =
-    let if1At = c .before .before .before in
+    let wideAt = c .before .before in
+    let if1At = wideAt .before .before in
     let digitAtAt = if1At .before in
     let loopAt = digitAtAt .before in
-    digit-tens (loopAt .loop .inv) (digitAtAt .digit-at .ensures) (if1At .if1 .taken) (c .before .wide .ensures) (c .if2 .left)
+    digit-tens (loopAt .loop .inv) (digitAtAt .digit-at .ensures) (if1At .if1 .taken) (wideAt .wide .ensures)
+    (over-false _ _ (c .before .is-over .ensures) (c .if2 .left))
 
 add-v : tie.Need-add-v Inv-loop μ-loop
 add-v c =
-    let if1At = c .before .before .before in
+    let wideAt = c .before .before in
+    let if1At = wideAt .before .before in
     let digitAtAt = if1At .before in
     let loopAt = digitAtAt .before in
-    digit-added (loopAt .loop .inv) (digitAtAt .digit-at .ensures) (if1At .if1 .taken) (c .before .wide .ensures) (c .if2 .left)
+    digit-added (loopAt .loop .inv) (digitAtAt .digit-at .ensures) (if1At .if1 .taken) (wideAt .wide .ensures)
+    (over-false _ _ (c .before .is-over .ensures) (c .if2 .left))
 
 add-n : tie.Need-add-n Inv-loop μ-loop
 add-n c =
-    let loopAt = c .before .before .before .before .before in
+    let loopAt = c .before .before .before .before .before .before in
     let entry = loopAt .before .before in
     digits-passed-count (loopAt .loop .inv) (entry .good .0 .1)
 
 loop-less : tie.Need-loop-less Inv-loop μ-loop
 loop-less c =
-    let if1At = c .before .before .before in
+    let if1At = c .before .before .before .before in
     let digitAtAt = if1At .before in
     let loopAt = digitAtAt .before in
     digit-nearer (loopAt .loop .inv) (digitAtAt .digit-at .ensures) (if1At .if1 .taken)
 
 loop-again : tie.Need-loop-again Inv-loop μ-loop
 loop-again c =
-    let if1At = c .before .before .before in
+    let wideAt = c .before .before in
+    let if1At = wideAt .before .before in
     let digitAtAt = if1At .before in
     let loopAt = digitAtAt .before in
-    digits-passed-digit (loopAt .loop .inv) (digitAtAt .digit-at .ensures) (if1At .if1 .taken) (c .before .wide .ensures) (c .if2 .left)
+    digits-passed-digit (loopAt .loop .inv) (digitAtAt .digit-at .ensures) (if1At .if1 .taken) (wideAt .wide .ensures)
+    (over-false _ _ (c .before .is-over .ensures) (c .if2 .left))
 
 returns-2 : tie.Need-returns-2 Inv-loop μ-loop
 returns-2 c = digits-passed-end (c .before .before .loop .inv) (c .before .digit-at .ensures) (c .if1 .left)
@@ -106,7 +114,7 @@ decimal-spec =
     shared-slice-read-wide
     sub-wide
     wide-requires
-    sub-if2
+    is-over-requires
     returns
     mul-v
     add-v

@@ -148,6 +148,32 @@ pub fn circuit_of(aig: &Aig<u32>) -> Circuit {
     }
 }
 
+/// The text form of any circuit. Every count and every reset is spelled.
+pub fn write_text(circuit: &Circuit, justice: &[u64]) -> Vec<u8> {
+    let Circuit { inputs, gates, latches, roots, .. } = circuit;
+    let line = |codes: &[u64]| codes.iter().map(u64::to_string).collect::<Vec<String>>().join(" ") + "\n";
+    let mut text = header("aag", circuit, justice);
+    text.extend(inputs.iter().map(|&input| line(&[input])));
+    text.extend(latches.iter().map(|latch| line(latch)));
+    text += &root_lines(roots, justice);
+    text.extend(gates.iter().map(|gate| line(gate)));
+    text.into_bytes()
+}
+
+/// The first line, with every count.
+fn header(tag: &str, circuit: &Circuit, justice: &[u64]) -> String {
+    let Circuit { largest, inputs, gates, latches, roots, .. } = circuit;
+    let [outputs, bad, constraints, fairness, _] = roots.each_ref().map(Vec::len);
+    let counts = [inputs.len(), latches.len(), outputs, gates.len(), bad, constraints, justice.len(), fairness];
+    format!("{tag} {largest}{}\n", counts.map(|count| format!(" {count}")).concat())
+}
+
+/// The root lines and justice sizes in the file's order.
+fn root_lines(roots: &[Vec<u64>; 5], sizes: &[u64]) -> String {
+    let [outputs, bad, constraints, fairness, justice] = roots.each_ref().map(|list| &list[..]);
+    [outputs, bad, constraints, sizes, justice, fairness].concat().iter().map(|code| format!("{code}\n")).collect()
+}
+
 /// The binary form of a circuit whose variables are numbered in order: inputs, latches, gates, each gate above its inputs. Every count and every reset is
 /// spelled.
 pub fn write(file: &File) -> Vec<u8> {
@@ -155,17 +181,11 @@ pub fn write(file: &File) -> Vec<u8> {
     let states = latches.iter().map(|latch| latch[0]);
     let defined = inputs.iter().copied().chain(states).chain(gates.iter().map(|gate| gate[0]));
     assert!(defined.eq((1..=*largest).map(|v| 2 * v)), "variables in order");
-    let [outputs, bad, constraints, fairness, justice] = roots;
-    let counts = [inputs.len(), latches.len(), outputs.len(), gates.len(), bad.len(), constraints.len(), file.justice.len(), fairness.len()];
-    let mut text = format!("aig {largest}");
-    text.extend(counts.map(|count| format!(" {count}")));
-    text.push('\n');
+    let mut text = header("aig", &file.circuit, &file.justice);
     for [_, next, reset] in latches {
         text += &format!("{next} {reset}\n");
     }
-    for code in [outputs, bad, constraints, &file.justice, justice, fairness].into_iter().flatten() {
-        text += &format!("{code}\n");
-    }
+    text += &root_lines(roots, &file.justice);
     let mut bytes = text.into_bytes();
     for &[output, first, second] in gates {
         assert!(output > first && first >= second, "a gate above its inputs, the larger one first");

@@ -1,145 +1,110 @@
 //! Binary files read by the port, by the crate's staged calls and by document 02's words, expanded and renumbered.
 use crate::{
     aiger,
+    files::{self, Asked, Form, Spare, Tally},
     outcome::{self, Lists},
-    reading::{self, by_port, by_words, expanded_by_port, expanded_by_words, Compact, Expanded, Outcome, ANSWER},
+    reading::{self, expanded_by_port, expanded_by_words, Compact, Expanded, Outcome, ANSWER},
 };
 use judge::{
     circuit::Circuit,
-    file_compare::{compare, shown, Compared},
+    file_compare::{compare, Compared},
     file_crate,
     file_examples::CASES,
-    file_kinds, file_shrink,
-    file_words::{needed, read, Line, Ordered, Room, Rules, AMPLE, LIMIT},
-    hex,
+    file_kinds,
+    file_words::{needed, Ordered, Refused, Room, LIMIT},
     random::Random,
 };
 use std::{collections::BTreeMap, process::exit};
 
-/// How much longer than they have to be lists are lent (shorter, where it is negative): next states, resets, gates, sizes, roots, the answer.
-#[derive(Clone, Copy)]
-pub struct Spare {
-    words: [isize; 6],
-    asked: Asked,
-}
-
-/// What a header's numbers ask for: up to `MOST` words of a list, since a header may ask for a million; all of it; or as many as no file asks for more.
-#[derive(Clone, Copy)]
-enum Asked {
-    Near,
-    All,
-    Never,
-}
-
-const MOST: usize = 20_000;
-const EXACT: Spare = Spare { words: [0; 6], asked: Asked::Near };
-const NEVER_SHORT: Room = [LIMIT as usize, LIMIT as usize, 2 * LIMIT as usize, LIMIT as usize, LIMIT as usize];
-
 /// Files longer than this are read and expanded, and not renumbered.
 const LONG: usize = 100_000;
 
-/// After how many files a line says how many were compared.
-const PROGRESS: u64 = 1_000_000;
+/// Binary files.
+pub struct Binary;
 
-impl Spare {
-    fn any(random: &mut Random) -> Spare {
-        let mut words = [(); 6].map(|()| random.below(3) as isize);
-        match random.below(100) {
-            0..=3 => words[random.index(5)] = -1,
-            4 => words[random.index(5)] = isize::MIN,
-            5 => words[random.index(5)] = 40,
-            6 => words[5] = -(random.between(1, ANSWER as u64) as isize),
-            _ => {}
-        }
-        let asked = random.below(200);
-        Spare { words, asked: if asked == 0 { Asked::All } else { Asked::Near } }
+extern "C" {
+    #[allow(clippy::too_many_arguments)]
+    fn imdagluz_read_aig(
+        bytes: *const u8,
+        length: usize,
+        nexts: *mut u32,
+        nexts_length: usize,
+        resets: *mut u32,
+        resets_length: usize,
+        gates: *mut u32,
+        gates_length: usize,
+        sizes: *mut u32,
+        sizes_length: usize,
+        roots: *mut u32,
+        roots_length: usize,
+        answer: *mut u64,
+        answer_length: usize,
+    ) -> u32;
+}
+
+impl Form<5> for Binary {
+    type Circuit = Ordered;
+
+    const NAMES: [&'static str; 5] = ["nexts", "resets", "gates", "sizes", "roots"];
+
+    const NEVER_SHORT: Room = [LIMIT as usize, LIMIT as usize, 2 * LIMIT as usize, LIMIT as usize, LIMIT as usize];
+
+    fn needed(bytes: &[u8]) -> Room {
+        needed(bytes)
     }
 
-    /// The lengths of the five lists, and that of the answer.
-    fn lengths(&self, bytes: &[u8]) -> (Room, usize) {
-        let mut room = match self.asked {
-            Asked::Near => needed(bytes).map(|words| words.min(MOST)),
-            Asked::All => needed(bytes),
-            Asked::Never => NEVER_SHORT,
+    fn compare(bytes: &[u8], room: Room) -> Result<Compared, String> {
+        compare(bytes, room)
+    }
+
+    fn by_crate(bytes: &[u8]) -> Result<Ordered, Refused> {
+        file_crate::read(bytes)
+    }
+
+    fn by_port(bytes: &[u8], mut lent: Outcome<5>) -> Outcome<5> {
+        let [nexts, resets, gates, sizes, roots] = lent.lists.each_mut().map(|list| (list.as_mut_ptr(), list.len()));
+        let answer = (lent.answer.as_mut_ptr(), lent.answer.len());
+        // Each pointer and length is a whole slice or Vec, and no two of those that are written overlap.
+        lent.number = unsafe {
+            imdagluz_read_aig(
+                bytes.as_ptr(),
+                bytes.len(),
+                nexts.0,
+                nexts.1,
+                resets.0,
+                resets.1,
+                gates.0,
+                gates.1,
+                sizes.0,
+                sizes.1,
+                roots.0,
+                roots.1,
+                answer.0,
+                answer.1,
+            )
         };
-        for (length, spare) in room.iter_mut().zip(self.words) {
-            *length = length.saturating_add_signed(spare);
-        }
-        (room, ANSWER.saturating_add_signed(self.words[5]))
-    }
-}
-
-/// What was found in a run.
-#[derive(Default)]
-pub struct Tally {
-    files: u64,
-    short_answers: u64,
-    answers: BTreeMap<u64, u64>,
-    /// For each line of docs/DIFFERENCES.md how many files there were, and how many of them the crate takes.
-    lines: BTreeMap<Line, [u64; 2]>,
-    renumbered: u64,
-}
-
-impl Tally {
-    /// Compares all readings of a file; ends the program at a difference, which is shrunk.
-    fn compare(&mut self, bytes: &[u8], spare: Spare) {
-        let found = check(bytes, spare).unwrap_or_else(|what| differs(bytes, spare, what));
-        self.files += 1;
-        if self.files % PROGRESS == 0 {
-            eprintln!("  {} files so far, no difference that is not listed", self.files);
-        }
-        if spare.words[5] < 0 {
-            self.short_answers += 1;
-            return;
-        }
-        let number = found.request.as_ref().map_or_else(|refused| refused.number, |_| 0);
-        *self.answers.entry(number).or_default() += 1;
-        self.renumbered += (number == 0 && bytes.len() <= LONG) as u64;
-        if let Some(line) = found.line {
-            let counts = self.lines.entry(line).or_default();
-            counts[0] += 1;
-            counts[1] += found.crate_takes as u64;
-        }
+        lent
     }
 
-    /// Says what was compared.
-    pub fn tell(&self, run: &str) {
-        let listed: u64 = self.lines.values().map(|counts| counts[0]).sum();
-        println!("{run}: {} files, no difference that is not listed", self.files);
-        for (number, count) in &self.answers {
-            match number {
-                0 => println!("  taken: {count}, expanded too, and {} renumbered", self.renumbered),
-                _ => println!("  refused {number}: {count}"),
-            }
-        }
-        println!("  with an answer list that is too short: {}", self.short_answers);
-        println!("  answered by the crate as by the port: {}", self.files - self.short_answers - listed);
-        for (line, [count, taken]) in &self.lines {
-            println!("  not alike, {}: {count}, of which the crate takes {taken}", line.words());
-        }
+    fn words(circuit: &Ordered, used: usize) -> ([u64; ANSWER], [&[u64]; 5]) {
+        (circuit.answer(used), circuit.lists())
     }
-}
 
-/// Compares all readings of a file, and what follows of one that is taken.
-fn check(bytes: &[u8], spare: Spare) -> Result<Compared, String> {
-    let (room, answer) = spare.lengths(bytes);
-    let compared = compare(bytes, room)?;
-    let lent = reading::lent(room, answer);
-    let (port, words) = (by_port(bytes, lent.clone()), by_words(&compared.request, lent));
-    if port != words {
-        return Err(reading::difference(&port, &words));
-    }
-    if let (Ok((circuit, _)), 0) = (&compared.request, port.number) {
-        let expanded = expand(circuit, &port, spare)?;
-        if bytes.len() <= LONG {
-            renumber(circuit, &port, expanded, bytes.len() as u64 % 8)?;
+    fn go_on(circuit: &Ordered, port: &Outcome<5>, spare: &Spare<5>, length: usize) -> Result<Option<u32>, String> {
+        let expanded = expand(circuit, port, spare)?;
+        if length > LONG {
+            return Ok(None);
         }
+        renumber(circuit, port, expanded, length as u64 % 8).map(|()| Some(0))
     }
-    Ok(compared)
+
+    fn tell_taken(count: u64, renumbered: &BTreeMap<u32, u64>) {
+        println!("  taken: {count}, expanded too, and {} renumbered", renumbered.values().sum::<u64>());
+    }
 }
 
 /// Expands what was read, into lists of the length that is needed, longer, and one word short.
-fn expand(circuit: &Ordered, port: &Outcome, spare: Spare) -> Result<Expanded, String> {
+fn expand(circuit: &Ordered, port: &Outcome<5>, spare: &Spare<5>) -> Result<Expanded, String> {
     let gates = &port.lists[2][..circuit.gates.len()];
     let compact = Compact { inputs: circuit.inputs as u32, latches: circuit.nexts.len() as u32, gates };
     let needed = reading::needed_for_expansion(&compact);
@@ -160,7 +125,7 @@ fn expand(circuit: &Ordered, port: &Outcome, spare: Spare) -> Result<Expanded, S
 }
 
 /// The circuit of lists that the port read and expanded.
-fn circuit_of(circuit: &Ordered, port: &Outcome, expanded: Expanded, flags: u64) -> Circuit {
+fn circuit_of(circuit: &Ordered, port: &Outcome<5>, expanded: Expanded, flags: u64) -> Circuit {
     let [inputs, states, triples] = expanded.lists;
     let wide = |list: &[u32]| list.iter().map(|&word| word as u64).collect::<Vec<u64>>();
     let mut roots = port.lists[4].iter().map(|&root| root as u64);
@@ -175,7 +140,7 @@ fn circuit_of(circuit: &Ordered, port: &Outcome, expanded: Expanded, flags: u64)
 }
 
 /// The lists have to be those of the crate's own record, and the circuit that they are is renumbered by both: a file that is read is not refused there.
-fn renumber(circuit: &Ordered, port: &Outcome, expanded: Expanded, flags: u64) -> Result<(), String> {
+fn renumber(circuit: &Ordered, port: &Outcome<5>, expanded: Expanded, flags: u64) -> Result<(), String> {
     let given = circuit_of(circuit, port, expanded, flags);
     let by_crate = Circuit { flags, ..aiger::circuit_of(&file_crate::record(circuit)) };
     let [numbers, expected] = [&given, &by_crate].map(aiger::numbers);
@@ -192,61 +157,24 @@ fn renumber(circuit: &Ordered, port: &Outcome, expanded: Expanded, flags: u64) -
     }
 }
 
-/// Shows the smallest file that differs, and ends the program.
-fn differs(bytes: &[u8], spare: Spare, what: String) -> ! {
-    if bytes.len() > 20_000 {
-        println!("DIFFERS, a file of {} bytes that begins with {:?}: {what}", bytes.len(), String::from_utf8_lossy(&bytes[..40]));
-        exit(1);
+/// Every small file of some forms: the documents' cases, short endings of each section, and every shape of header, cut at each byte.
+pub fn small(tally: &mut Tally) {
+    file_kinds::short(6, 5, |bytes| tally.compare::<Binary, 5>(bytes, Spare::EXACT));
+    file_kinds::shapes(&mut Random(1), |bytes| tally.in_every_length::<Binary, 5>(bytes));
+    for (bytes, ..) in CASES {
+        tally.in_every_length::<Binary, 5>(bytes);
+        tally.compare::<Binary, 5>(bytes, Spare { asked: Asked::Never, ..Spare::EXACT });
     }
-    let smallest = file_shrink::smallest(bytes.to_vec(), |bytes| check(bytes, spare).is_err());
-    let what = check(&smallest, spare).err().unwrap();
-    let (room, answer) = spare.lengths(&smallest);
-    let words = read(&smallest, room, Rules::Request).map(|(circuit, _)| circuit);
-    println!("DIFFERS \"{}\"", smallest.escape_ascii());
-    println!("  bytes: {}; lent: {room:?} and {answer} words", hex::encode(&smallest));
-    println!("  {what}");
-    println!("  the words: {}", shown(&words));
-    println!("  the crate: {}", shown(&file_crate::read(&smallest)));
-    exit(1)
 }
 
 /// Good and damaged files of up to so many inputs and gates.
-pub fn random(tally: &mut Tally, mut random: Random, count: u64, gates: u64) {
-    for _ in 0..count {
-        let bytes = file_kinds::any(&mut random, gates);
-        let spare = Spare::any(&mut random);
-        tally.compare(&bytes, spare);
-    }
+pub fn random(tally: &mut Tally, random: Random, count: u64, gates: u64) {
+    tally.random::<Binary, 5>(random, count, gates, file_kinds::any);
 }
 
-/// Every small file of some forms: the documents' cases, short endings of each section, and every shape of header, cut at each byte.
-pub fn small(tally: &mut Tally) {
-    file_kinds::short(6, 5, |bytes| tally.compare(bytes, EXACT));
-    file_kinds::shapes(&mut Random(1), |bytes| in_every_length(tally, bytes));
-    for (bytes, ..) in CASES {
-        in_every_length(tally, bytes);
-        tally.compare(bytes, Spare { asked: Asked::Never, ..EXACT });
-    }
-}
-
-/// A file in lists that are as long as they must be, in longer ones, and with each of them one word short.
-fn in_every_length(tally: &mut Tally, bytes: &[u8]) {
-    tally.compare(bytes, EXACT);
-    tally.compare(bytes, Spare { words: [3, 1, 2, 1, 2, 1], ..EXACT });
-    for list in 0..6 {
-        let mut words = [0; 6];
-        words[list] = -1;
-        tally.compare(bytes, Spare { words, ..EXACT });
-    }
-}
-
-/// Files at the limits, with lists that are never too short, with just those that they ask for, and with a root list one word short.
+/// Files at the limits.
 pub fn large(tally: &mut Tally) {
-    file_kinds::large(&mut Random(1), |bytes| {
-        tally.compare(bytes, Spare { asked: Asked::Never, ..EXACT });
-        tally.compare(bytes, Spare { asked: Asked::All, ..EXACT });
-        tally.compare(bytes, Spare { words: [0, 0, 0, 0, -1, 0], asked: Asked::All });
-    });
+    file_kinds::large(&mut Random(1), |bytes| tally.at_the_limits::<Binary, 5>(bytes));
 }
 
 /// Random expansions, of circuits that no file has too: sizes at the limits, odd lists of gates, any codes.
@@ -278,18 +206,12 @@ pub fn expansions(mut random: Random, count: u64) {
     println!("expansions {count}: no difference\n  expanded: {done}, refused 1, 2, 3: {refused:?}");
 }
 
-/// A real file, all of it: read by the port as by the crate and by the words, and expanded to the circuit that is given, which comes of a reader of its own.
+/// A real file, all of it: read, and expanded to the circuit that is given, which comes of a reader of its own.
 pub fn whole(bytes: &[u8], given: &Circuit) -> usize {
-    let spare = Spare { words: [1; 6], asked: Asked::All };
-    let (room, answer) = spare.lengths(bytes);
-    let found = compare(bytes, AMPLE).unwrap_or_else(|what| panic!("{what}"));
-    assert!(found.line.is_none(), "the crate reads the file otherwise: {:?}", found.line);
-    let (circuit, used) = found.request.as_ref().expect("the file is taken");
-    let lent = reading::lent(room, answer);
-    let (port, words) = (by_port(bytes, lent.clone()), by_words(&found.request, lent));
-    assert!(port == words, "{}", reading::difference(&port, &words));
-    let expanded = expand(circuit, &port, spare).unwrap_or_else(|what| panic!("{what}"));
-    let read = circuit_of(circuit, &port, expanded, given.flags);
+    let spare = Spare { words: [1; 5], answer: 1, asked: Asked::All };
+    let (port, circuit, used) = files::whole::<Binary, 5>(bytes, &spare);
+    let expanded = expand(&circuit, &port, &spare).unwrap_or_else(|what| panic!("{what}"));
+    let read = circuit_of(&circuit, &port, expanded, given.flags);
     assert!(aiger::numbers(&read) == aiger::numbers(given), "the port reads another circuit");
-    *used
+    used
 }

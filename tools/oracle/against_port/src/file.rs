@@ -1,12 +1,16 @@
-//! A real file: read, if it is binary, and written again; renumbered by the port and by the crate as it stands and renamed at random, with all flags, and written by the
-//! port as the port ordered it, which is read again.
+//! A real file: read in its own form, and written again if it is binary; renumbered by the port and by the crate as it stands and renamed at random, with all flags, and
+//! written by the port in both forms as the port ordered it, which is read again.
 use crate::{
     aiger::{self, File},
     binary,
-    outcome::{by_crate, by_port, difference, Lists, Outcome, Spare},
-    writing,
+    outcome::{by_crate, by_port, difference, ordered, Lists, Spare},
+    texts, writing,
 };
-use judge::{circuit::Circuit, random::Random, write_words::plain};
+use judge::{
+    circuit::Circuit,
+    random::Random,
+    write_words::{plain, Form},
+};
 use std::{fs, path::Path, process::exit};
 
 const LIMIT: u64 = 1_048_575;
@@ -23,22 +27,27 @@ pub fn compare(path: &str, folder: &str, seed: u64) {
     if bytes.starts_with(b"aig ") {
         let used = binary::whole(&bytes, &file.circuit);
         println!("  read and expanded by the port as by the crate, {used} of {} bytes", bytes.len());
-        let written = writing::whole(&file);
+        let written = writing::whole(&file, Form::Binary);
         let same = plain(&bytes[..used]);
         assert!((written == bytes[..used]) == same, "a file that is read and written is the same just when it is plain");
         binary::whole(&written, &file.circuit);
         println!("  written by the port as by the crate, {} bytes, {}the same, and read again", written.len(), if same { "" } else { "not " });
+    } else {
+        let used = texts::whole(&bytes, &file.circuit);
+        println!("  read by the port as by the crate, {used} of {} bytes", bytes.len());
     }
     let mut random = Random(seed);
     let shuffled = renamed(&file.circuit, &mut random, false);
     let signs = renamed(&file.circuit, &mut random, true);
+    // a text has its definitions and gates in any order, and none that is odd
+    texts::whole(&aiger::write_text(&shuffled, &file.justice), &shuffled);
     let mut made = vec![];
     for (order, circuit) in [("given", &file.circuit), ("shuffled", &shuffled), ("signs", &signs)] {
         let counts = (0..8).map(|flags| one(&file, circuit, order, flags, folder).to_string());
         made.push(counts.collect::<Vec<_>>().join(" "));
     }
     made.dedup();
-    println!("  24 outcomes alike, and the 24 files that the port and the crate wrote alike are read alike; gates made with the flags 0 to 7: {}", made.join("; "));
+    println!("  24 outcomes alike, and the 24 files and 24 texts that the port and the crate wrote alike are read alike; gates made with the flags 0 to 7: {}", made.join("; "));
 }
 
 /// One outcome, compared and written: the number of gates made.
@@ -57,27 +66,12 @@ fn one(file: &File, circuit: &Circuit, order: &str, flags: u64, folder: &str) ->
     let path = Path::new(folder).join(format!("{order}-{flags}.aig"));
     // with every reset and count, by a writer of our own, which is read; and by the port, for abc
     binary::whole(&aiger::write(&ordered), &ordered.circuit);
-    let written = writing::whole(&ordered);
+    let written = writing::whole(&ordered, Form::Binary);
     binary::whole(&written, &ordered.circuit);
     assert!(aiger::read(&written).starts() == file.starts(), "each latch of what is written starts as it did");
+    texts::whole(&writing::whole(&ordered, Form::Text), &ordered.circuit);
     fs::write(path, written).expect("the file can be written");
     port.words[1]
-}
-
-/// The circuit that an outcome of success describes.
-fn ordered(circuit: &Circuit, outcome: &Outcome) -> Circuit {
-    let [_, made, largest] = outcome.words.map(u64::from);
-    let lists = &outcome.lists;
-    let (i, l) = (circuit.inputs.len() as u64, circuit.latches.len() as u64);
-    let mut images = lists.root_images.iter().map(|&image| image as u64);
-    Circuit {
-        largest,
-        inputs: (1..=i).map(|v| 2 * v).collect(),
-        latches: (i + 1..=i + l).zip(lists.next_images.iter().zip(&lists.reset_images)).map(|(v, (&next, &reset))| [2 * v, next as u64, reset as u64]).collect(),
-        gates: (i + l + 1..=i + l + made).zip(lists.gates_out.chunks(2)).map(|(v, pair)| [2 * v, pair[0] as u64, pair[1] as u64]).collect(),
-        roots: circuit.roots.each_ref().map(|list| images.by_ref().take(list.len()).collect()),
-        flags: 0,
-    }
 }
 
 /// The same circuit with its variables renamed at random, some names unused, its gates shuffled and their inputs exchanged at random; with

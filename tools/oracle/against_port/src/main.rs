@@ -12,6 +12,13 @@
 //!     against_port write random SEED COUNT MAXGATES
 //!     against_port write large                   ordered circuits at the limits and one over, written
 //!     against_port write trips SEED COUNT MAXGATES   files read and written again
+//!     against_port texts small                   texts: as binary files above
+//!     against_port texts random SEED COUNT MAXGATES     and those that are taken renumbered, written as binary files and read again
+//!     against_port texts large
+//!     against_port text-writing small            ordered circuits written as texts: as above
+//!     against_port text-writing random SEED COUNT MAXGATES
+//!     against_port text-writing large
+//!     against_port text-writing trips SEED COUNT MAXGATES   texts written and read again
 //!     against_port file FILE FOLDER SEED         an AIGER file in three orders, with all flags; writes FOLDER/ORDER-FLAGS.aig as the port ordered it
 //!     against_port flip FILE WHICH TO            the file with one literal flipped: of a next state, a reset, a root or a gate (WHICH)
 //!
@@ -19,12 +26,15 @@
 mod aiger;
 mod binary;
 mod file;
+mod files;
 mod outcome;
 mod reading;
 mod shrink;
+mod texts;
+mod values;
 mod writing;
 
-use judge::{circuit::Circuit, circuit_kinds, random::Random};
+use judge::{circuit::Circuit, circuit_kinds, random::Random, write_words::Form};
 use outcome::{by_crate, by_port, Lists, Spare};
 use std::{collections::BTreeMap, process::exit};
 
@@ -88,6 +98,8 @@ fn main() {
         ["large"] => large(&mut tally),
         ["binary", ref run @ ..] => return binary_files(run),
         ["write", ref run @ ..] => return written(run),
+        ["texts", ref run @ ..] => return text_files(run),
+        ["text-writing", ref run @ ..] => return texts_written(run),
         ["expansions", s, c] => return binary::expansions(Random(number(s)), number(c)),
         ["file", path, folder, seed] => return file::compare(path, folder, number(seed)),
         ["flip", path, which, to] => return file::flip(path, which, to),
@@ -107,6 +119,8 @@ fn misused() -> ! {
     eprintln!("usage: against_port small | random SEED COUNT MAXGATES | sharing SEED COUNT MAXGATES | large");
     eprintln!("     | binary small | binary random SEED COUNT MAXGATES | binary large | expansions SEED COUNT");
     eprintln!("     | write small | write random SEED COUNT MAXGATES | write large | write trips SEED COUNT MAXGATES");
+    eprintln!("     | texts small | texts random SEED COUNT MAXGATES | texts large");
+    eprintln!("     | text-writing small | text-writing random SEED COUNT MAXGATES | text-writing large | text-writing trips SEED COUNT MAXGATES");
     eprintln!("     | file FILE FOLDER SEED | flip FILE WHICH TO");
     exit(2)
 }
@@ -114,29 +128,58 @@ fn misused() -> ! {
 /// A run over binary files, and what it found.
 fn binary_files(run: &[&str]) {
     let number = |text: &str| text.parse::<u64>().expect("a number");
-    let mut tally = binary::Tally::default();
+    let mut tally = files::Tally::default();
     match *run {
         ["small"] => binary::small(&mut tally),
         ["random", s, c, g] => binary::random(&mut tally, Random(number(s)), number(c), number(g)),
         ["large"] => binary::large(&mut tally),
         _ => misused(),
     }
-    tally.tell(&format!("binary {}", run.join(" ")));
+    tally.tell::<binary::Binary, 5>(&format!("binary {}", run.join(" ")));
+}
+
+/// A run over texts, and what it found.
+fn text_files(run: &[&str]) {
+    let number = |text: &str| text.parse::<u64>().expect("a number");
+    let mut tally = files::Tally::default();
+    match *run {
+        ["small"] => texts::small(&mut tally),
+        ["random", s, c, g] => texts::random(&mut tally, Random(number(s)), number(c), number(g)),
+        ["large"] => texts::large(&mut tally),
+        _ => misused(),
+    }
+    tally.tell::<texts::Texts, 7>(&format!("texts {}", run.join(" ")));
 }
 
 /// A run over ordered circuits that are written, and what it found.
 fn written(run: &[&str]) {
     let number = |text: &str| text.parse::<u64>().expect("a number");
+    match *run {
+        ["trips", s, c, g] => writing::trips(Random(number(s)), number(c), number(g)),
+        _ => written_as(Form::Binary, "write", run),
+    }
+}
+
+/// The same for texts.
+fn texts_written(run: &[&str]) {
+    let number = |text: &str| text.parse::<u64>().expect("a number");
+    match *run {
+        ["trips", s, c, g] => writing::text_trips(Random(number(s)), number(c), number(g)),
+        _ => written_as(Form::Text, "text-writing", run),
+    }
+}
+
+fn written_as(form: Form, name: &str, run: &[&str]) {
+    let number = |text: &str| text.parse::<u64>().expect("a number");
     judge::write_crate::silent();
-    let mut tally = writing::Tally::default();
+    let mut tally = writing::Tally::of(form);
     match *run {
         ["small"] => writing::small(&mut tally),
         ["random", s, c, g] => writing::random(&mut tally, Random(number(s)), number(c), number(g)),
         ["large"] => writing::large(&mut tally),
-        ["trips", s, c, g] => return writing::trips(Random(number(s)), number(c), number(g)),
         _ => misused(),
     }
-    tally.tell(&format!("write {}", run.join(" ")));
+    tally.tell(&format!("{name} {}", run.join(" ")));
 }
 
 /// Every circuit of up to two gates over an input, with a root, of up to one gate with a latch too, and of two latches with trim on and all else off; all codes of

@@ -321,3 +321,19 @@ fn write(
     }
     lists.scratch[..needed[5]].fill(0);
 }
+
+/// The circuit that an outcome of success describes.
+pub fn ordered(circuit: &Circuit, outcome: &Outcome) -> Circuit {
+    let [_, made, largest] = outcome.words.map(u64::from);
+    let lists = &outcome.lists;
+    let (i, l) = (circuit.inputs.len() as u64, circuit.latches.len() as u64);
+    let mut images = lists.root_images.iter().map(|&image| image as u64);
+    Circuit {
+        largest,
+        inputs: (1..=i).map(|v| 2 * v).collect(),
+        latches: (i + 1..=i + l).zip(lists.next_images.iter().zip(&lists.reset_images)).map(|(v, (&next, &reset))| [2 * v, next as u64, reset as u64]).collect(),
+        gates: (i + l + 1..=i + l + made).zip(lists.gates_out.chunks(2)).map(|(v, pair)| [2 * v, pair[0] as u64, pair[1] as u64]).collect(),
+        roots: circuit.roots.each_ref().map(|list| images.by_ref().take(list.len()).collect()),
+        flags: 0,
+    }
+}

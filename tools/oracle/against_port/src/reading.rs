@@ -1,18 +1,15 @@
-//! The whole outcome of reading a binary file into lent lists, and of expanding what was read: by the port, and as documents and header have it.
-use judge::file_words::{Reading, Room, LIMIT};
+//! The whole outcome of reading a file into lent lists, and of expanding what was read: by the port, and as documents and header have it.
+use judge::file_words::{Refused, LIMIT};
 
 /// How many words an answer has.
 pub const ANSWER: usize = 11;
 
-/// The lists that are lent for next states, resets, gates, justice sizes and roots.
-pub type Lists = [Vec<u32>; 5];
-
 /// The refusal's number or 0, the answer's words, and the lists; before the call, what is lent.
 #[derive(Clone, PartialEq, Eq, Debug)]
-pub struct Outcome {
+pub struct Outcome<const N: usize> {
     pub number: u32,
     pub answer: Vec<u64>,
-    pub lists: Lists,
+    pub lists: [Vec<u32>; N],
 }
 
 /// Words that are easy to tell, and of which none is 0.
@@ -21,30 +18,12 @@ fn dirty(length: usize, index: u32) -> Vec<u32> {
 }
 
 /// Lists of these lengths, with other words in them.
-pub fn lent(room: Room, answer: usize) -> Outcome {
+pub fn lent<const N: usize>(room: [usize; N], answer: usize) -> Outcome<N> {
     let list = |index: usize| dirty(room[index], index as u32);
-    Outcome { number: 0, answer: dirty(answer, 7).into_iter().map(u64::from).collect(), lists: [0, 1, 2, 3, 4].map(list) }
+    Outcome { number: 0, answer: dirty(answer, 7).into_iter().map(u64::from).collect(), lists: std::array::from_fn(list) }
 }
 
 extern "C" {
-    #[allow(clippy::too_many_arguments)]
-    fn imdagluz_read_aig(
-        bytes: *const u8,
-        length: usize,
-        nexts: *mut u32,
-        nexts_length: usize,
-        resets: *mut u32,
-        resets_length: usize,
-        gates: *mut u32,
-        gates_length: usize,
-        sizes: *mut u32,
-        sizes_length: usize,
-        roots: *mut u32,
-        roots_length: usize,
-        answer: *mut u64,
-        answer_length: usize,
-    ) -> u32;
-
     #[allow(clippy::too_many_arguments)]
     fn imdagluz_expand(
         inputs: u32,
@@ -60,43 +39,17 @@ extern "C" {
     ) -> u32;
 }
 
-/// What the port answers and leaves.
-pub fn by_port(bytes: &[u8], mut lent: Outcome) -> Outcome {
-    let [nexts, resets, gates, sizes, roots] = lent.lists.each_mut().map(|list| (list.as_mut_ptr(), list.len()));
-    let answer = (lent.answer.as_mut_ptr(), lent.answer.len());
-    // Each pointer and length is a whole slice or Vec, and no two of those that are written overlap.
-    lent.number = unsafe {
-        imdagluz_read_aig(
-            bytes.as_ptr(),
-            bytes.len(),
-            nexts.0,
-            nexts.1,
-            resets.0,
-            resets.1,
-            gates.0,
-            gates.1,
-            sizes.0,
-            sizes.1,
-            roots.0,
-            roots.1,
-            answer.0,
-            answer.1,
-        )
-    };
-    lent
-}
-
 /// What a reading has to leave: named cells and no others where a file is taken, and all lists 0 where it is refused.
-pub fn by_words(reading: &Reading, mut lent: Outcome) -> Outcome {
+pub fn by_words<const N: usize>(reading: Result<([u64; ANSWER], [&[u64]; N]), &Refused>, mut lent: Outcome<N>) -> Outcome<N> {
     if lent.answer.len() < ANSWER {
         lent.number = 3;
         return lent;
     }
     lent.answer[..ANSWER].fill(0);
     match reading {
-        Ok((circuit, used)) => {
-            lent.answer[..ANSWER].copy_from_slice(&circuit.answer(*used));
-            for (list, read) in lent.lists.iter_mut().zip(circuit.lists()) {
+        Ok((answer, lists)) => {
+            lent.answer[..ANSWER].copy_from_slice(&answer);
+            for (list, read) in lent.lists.iter_mut().zip(lists) {
                 list.iter_mut().zip(read).for_each(|(cell, &word)| *cell = word as u32);
             }
         }
@@ -110,11 +63,10 @@ pub fn by_words(reading: &Reading, mut lent: Outcome) -> Outcome {
 }
 
 /// Where two outcomes differ first.
-pub fn difference(port: &Outcome, words: &Outcome) -> String {
+pub fn difference<const N: usize>(port: &Outcome<N>, words: &Outcome<N>, names: [&str; N]) -> String {
     if (port.number, &port.answer) != (words.number, &words.answer) {
         return format!("the port answers {} {:?}, by the words it is {} {:?}", port.number, port.answer, words.number, words.answer);
     }
-    let names = ["nexts", "resets", "gates", "sizes", "roots"];
     for ((one, other), name) in port.lists.iter().zip(&words.lists).zip(names) {
         if let Some(cell) = (0..one.len()).find(|&cell| one[cell] != other[cell]) {
             return format!("{name}[{cell}]: the port {}, by the words {}", one[cell], other[cell]);

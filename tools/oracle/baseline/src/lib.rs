@@ -3,7 +3,7 @@
 use flussab::{text::LineReader, DeferredReader, DeferredWriter};
 use flussab_aiger::{
     aig::{Aig, AndGate, Latch, OrderedAig, OrderedAndGate, OrderedLatch, Renumber, RenumberConfig},
-    binary, token, ParseError,
+    ascii, binary, token, ParseError,
 };
 use std::{ptr, slice};
 
@@ -101,15 +101,15 @@ pub unsafe extern "C" fn crate_renumber(circuit: *const Aig<u32>, flags: u32) ->
     }
 }
 
-/// What was read of a binary file, and its justice sizes; all justice literals are one list.
-pub struct FileRead(OrderedAig<u32>, Vec<usize>);
+/// What was read of a binary file or of a text, and its justice sizes; all justice literals are one list.
+pub struct FileRead<C>(C, Vec<usize>);
 
 /// Reads a binary file by the staged calls, up to its last gate: what `crate_sum` takes, or null where the crate refuses it.
 ///
 /// # Safety
 /// `bytes` points to `length` bytes that can be read.
 #[no_mangle]
-pub unsafe extern "C" fn crate_read(bytes: *const u8, length: usize) -> *mut FileRead {
+pub unsafe extern "C" fn crate_read(bytes: *const u8, length: usize) -> *mut FileRead<OrderedAig<u32>> {
     let bytes = unsafe { slice::from_raw_parts(bytes, length) };
     staged(bytes).map_or(ptr::null_mut(), |read| Box::into_raw(Box::new(read)))
 }
@@ -119,76 +119,121 @@ pub unsafe extern "C" fn crate_read(bytes: *const u8, length: usize) -> *mut Fil
 /// # Safety
 /// `read` comes from `crate_read` and is not used again.
 #[no_mangle]
-pub unsafe extern "C" fn crate_sum(read: *mut FileRead) -> u64 {
+pub unsafe extern "C" fn crate_sum(read: *mut FileRead<OrderedAig<u32>>) -> u64 {
     let FileRead(read, sizes) = *unsafe { Box::from_raw(read) };
     sum(&read, &sizes)
 }
 
+/// Reads a text in the same way: what `crate_text_sum` takes, or null where the crate refuses it.
+///
+/// # Safety
+/// `bytes` points to `length` bytes that can be read.
+#[no_mangle]
+pub unsafe extern "C" fn crate_read_text(bytes: *const u8, length: usize) -> *mut FileRead<Aig<u32>> {
+    let bytes = unsafe { slice::from_raw_parts(bytes, length) };
+    staged_text(bytes).map_or(ptr::null_mut(), |read| Box::into_raw(Box::new(read)))
+}
+
+/// The sum of all words that were read, which are dropped.
+///
+/// # Safety
+/// `read` comes from `crate_read_text` and is not used again.
+#[no_mangle]
+pub unsafe extern "C" fn crate_text_sum(read: *mut FileRead<Aig<u32>>) -> u64 {
+    let FileRead(read, sizes) = *unsafe { Box::from_raw(read) };
+    let latch = |latch: &Latch<u32>| latch.state as u64 + latch.next_state as u64 + latch.initialization.map_or(latch.state as u64, u64::from);
+    let latches: u64 = read.latches.iter().map(latch).sum();
+    let gates: u64 = read.and_gates.iter().map(|gate| gate.output as u64 + words(&gate.inputs)).sum();
+    let roots = [&read.outputs, &read.bad_state_properties, &read.invariant_constraints, &read.fairness_constraints, &read.justice_properties[0]];
+    words(&read.inputs) + latches + gates + roots.map(|list| words(list)).iter().sum::<u64>() + sizes.iter().sum::<usize>() as u64
+}
+
+/// Puts all that a stage gives into a list.
+macro_rules! all {
+    ($list:expr, $stage:ident.$next:ident) => {
+        while let Some(item) = $stage.$next()? {
+            $list.push(item);
+        }
+    };
+}
+
+/// The root section, whose stages have the same names in both forms, from the stage of the latches on: the stage of the gates, and the justice sizes.
+macro_rules! roots {
+    ($stage:ident, $read:ident, $header:ident) => {{
+        $read.outputs.reserve_exact($header.output_count);
+        $read.bad_state_properties.reserve_exact($header.bad_state_property_count);
+        $read.invariant_constraints.reserve_exact($header.invariant_constraint_count);
+        $read.fairness_constraints.reserve_exact($header.fairness_constraint_count);
+        let mut sizes = Vec::with_capacity($header.justice_property_count);
+        let mut stage = $stage.outputs()?;
+        all!($read.outputs, stage.next_output);
+        let mut stage = stage.bad_state_properties()?;
+        all!($read.bad_state_properties, stage.next_bad_state_property);
+        let mut stage = stage.invariant_constraints()?;
+        all!($read.invariant_constraints, stage.next_invariant_constraint);
+        let mut stage = stage.justice_properties()?;
+        all!(sizes, stage.next_justice_property_size);
+        let mut justice = Vec::with_capacity(sizes.iter().sum());
+        let mut stage = stage.justice_property_local_fairness_constraints()?;
+        all!(justice, stage.next_justice_property_local_fairness_constraint);
+        $read.justice_properties = vec![justice];
+        let mut stage = stage.fairness_constraints()?;
+        all!($read.fairness_constraints, stage.next_fairness_constraint);
+        (stage.and_gates()?, sizes)
+    }};
+}
+
 /// What the file holds, in lists with room for all that its header counts.
-fn staged(bytes: &[u8]) -> Result<FileRead, ParseError> {
+fn staged(bytes: &[u8]) -> Result<FileRead<OrderedAig<u32>>, ParseError> {
     let parser = binary::Parser::<u32>::from_read(bytes, binary::Config::default())?;
-    let header = parser.header();
+    let header = parser.header().clone();
     let mut read = OrderedAig {
         max_var_index: header.max_var_index,
         input_count: header.input_count,
         latches: Vec::with_capacity(header.latch_count),
-        outputs: Vec::with_capacity(header.output_count),
-        bad_state_properties: Vec::with_capacity(header.bad_state_property_count),
-        invariant_constraints: Vec::with_capacity(header.invariant_constraint_count),
-        fairness_constraints: Vec::with_capacity(header.fairness_constraint_count),
         and_gates: Vec::with_capacity(header.and_gate_count),
         ..OrderedAig::default()
     };
-    let mut sizes = Vec::with_capacity(header.justice_property_count);
     let mut stage = parser.latches()?;
-    while let Some(latch) = stage.next_latch()? {
-        read.latches.push(latch);
-    }
-    let mut stage = stage.outputs()?;
-    while let Some(root) = stage.next_output()? {
-        read.outputs.push(root);
-    }
-    let mut stage = stage.bad_state_properties()?;
-    while let Some(root) = stage.next_bad_state_property()? {
-        read.bad_state_properties.push(root);
-    }
-    let mut stage = stage.invariant_constraints()?;
-    while let Some(root) = stage.next_invariant_constraint()? {
-        read.invariant_constraints.push(root);
-    }
-    let mut stage = stage.justice_properties()?;
-    while let Some(size) = stage.next_justice_property_size()? {
-        sizes.push(size);
-    }
-    let mut justice = Vec::with_capacity(sizes.iter().sum());
-    let mut stage = stage.justice_property_local_fairness_constraints()?;
-    while let Some(root) = stage.next_justice_property_local_fairness_constraint()? {
-        justice.push(root);
-    }
-    read.justice_properties = vec![justice];
-    let mut stage = stage.fairness_constraints()?;
-    while let Some(root) = stage.next_fairness_constraint()? {
-        read.fairness_constraints.push(root);
-    }
-    let mut stage = stage.and_gates()?;
-    while let Some(gate) = stage.next_and_gate()? {
-        read.and_gates.push(gate);
-    }
+    all!(read.latches, stage.next_latch);
+    let (mut stage, sizes) = roots!(stage, read, header);
+    all!(read.and_gates, stage.next_and_gate);
     Ok(FileRead(read, sizes))
+}
+
+/// What the text holds, in the same way.
+fn staged_text(bytes: &[u8]) -> Result<FileRead<Aig<u32>>, ParseError> {
+    let parser = ascii::Parser::<u32>::from_read(bytes, ascii::Config::default())?;
+    let header = parser.header().clone();
+    let mut read = Aig {
+        max_var_index: header.max_var_index,
+        inputs: Vec::with_capacity(header.input_count),
+        latches: Vec::with_capacity(header.latch_count),
+        and_gates: Vec::with_capacity(header.and_gate_count),
+        ..Aig::default()
+    };
+    let mut stage = parser.inputs()?;
+    all!(read.inputs, stage.next_input);
+    let mut stage = stage.latches()?;
+    all!(read.latches, stage.next_latch);
+    let (mut stage, sizes) = roots!(stage, read, header);
+    all!(read.and_gates, stage.next_and_gate);
+    Ok(FileRead(read, sizes))
+}
+
+/// The sum of a list.
+fn words(list: &[u32]) -> u64 {
+    list.iter().map(|&word| word as u64).sum()
 }
 
 /// The sum of all words that were read.
 fn sum(read: &OrderedAig<u32>, sizes: &[usize]) -> u64 {
-    let words = |list: &[u32]| list.iter().map(|&word| word as u64).sum::<u64>();
     let own = |index: usize| 2 * (read.input_count + 1 + index) as u64;
     let latch = |(index, latch): (usize, &OrderedLatch<u32>)| latch.next_state as u64 + latch.initialization.map_or(own(index), u64::from);
     let latches: u64 = read.latches.iter().enumerate().map(latch).sum();
     let gates: u64 = read.and_gates.iter().map(|gate| words(&gate.inputs)).sum();
-    let roots = [&read.outputs, &read.bad_state_properties, &read.invariant_constraints, &read.fairness_constraints];
-    latches + gates
-        + roots.map(|list| words(list)).iter().sum::<u64>()
-        + words(&read.justice_properties[0])
-        + sizes.iter().map(|&size| size as u64).sum::<u64>()
+    let roots = [&read.outputs, &read.bad_state_properties, &read.invariant_constraints, &read.fairness_constraints, &read.justice_properties[0]];
+    latches + gates + roots.map(|list| words(list)).iter().sum::<u64>() + sizes.iter().sum::<usize>() as u64
 }
 
 /// An ordered circuit for `crate_write`; it is never freed. Gates come flat, two words each, roots in the walk's order with their five counts, and each
@@ -239,6 +284,21 @@ pub unsafe extern "C" fn crate_ordered(
 #[no_mangle]
 pub unsafe extern "C" fn crate_write(circuit: *const OrderedAig<u32>, out: *mut u8, length: usize) -> usize {
     written(unsafe { &*circuit }, unsafe { slice::from_raw_parts_mut(out, length) })
+}
+
+/// Writes an ordered circuit as a text in the same way.
+///
+/// # Safety
+/// As of `crate_write`.
+#[no_mangle]
+pub unsafe extern "C" fn crate_write_text(circuit: *const OrderedAig<u32>, out: *mut u8, length: usize) -> usize {
+    let out = unsafe { slice::from_raw_parts_mut(out, length) };
+    let mut left = out;
+    let mut writer = DeferredWriter::from_write(&mut left);
+    ascii::Writer::<u32>::new(&mut writer).write_ordered_aig(unsafe { &*circuit });
+    writer.check_io_error().expect("room for the text");
+    drop(writer);
+    length - left.len()
 }
 
 /// Reads a file, renumbers it with the flags and writes what comes of it: how many bytes that took, or none where the crate refuses it.

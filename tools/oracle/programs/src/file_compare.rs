@@ -1,44 +1,55 @@
-//! The crate's reading of a binary file against document 02's words, and which line of docs/DIFFERENCES.md tells of it where they are not the same.
+//! The crate's reading of a binary file or a text against document 02's words, and which line of docs/DIFFERENCES.md tells of it where they are not the same.
 use crate::{
     file_crate,
-    file_words::{read, Line, Ordered, Reading, Refused, Room, Rules, AMPLE},
+    file_words::{self, Line, Ordered, Reading, Refused, Rules},
+    text_crate,
+    text_words::{self, Text},
 };
+use std::fmt::Debug;
 
 /// What both readers make of a file.
-pub struct Compared {
+pub struct Compared<C = Ordered> {
     /// Document 02's reading.
-    pub request: Reading,
+    pub request: Reading<C>,
     /// The line by which the crate's is another.
     pub line: Option<Line>,
     pub crate_takes: bool,
 }
 
-/// Compares the two readings. An error is a difference on no line.
-pub fn compare(bytes: &[u8], room: Room) -> Result<Compared, String> {
-    let request = read(bytes, room, Rules::Request);
-    let expected = read(bytes, AMPLE, Rules::Crate);
-    let by_crate = file_crate::read(bytes);
-    let unlike = || Err(format!("the crate: {}; as it is listed: {}", shown(&by_crate), shown(&without_place(&expected))));
-    match (&expected, &by_crate) {
-        (Ok((circuit, used)), Ok(read)) if circuit == read && ends_at(bytes, *used, read) => {}
-        (Err(listed), Err(given)) if (listed.number, listed.place) == (given.number, given.place) => {}
-        _ => return unlike(),
-    }
-    let line = match difference(&request, &expected) {
-        Ok(line) => line,
-        Err(()) => return unlike(),
+/// Compares the two readings of a binary file. An error is a difference on no line.
+pub fn compare(bytes: &[u8], room: file_words::Room) -> Result<Compared, String> {
+    let request = file_words::read(bytes, room, Rules::Request);
+    held(bytes, request, file_words::read(bytes, file_words::AMPLE, Rules::Crate), file_crate::read)
+}
+
+/// The same of a text.
+pub fn compare_text(bytes: &[u8], room: text_words::Room) -> Result<Compared<Text>, String> {
+    let request = text_words::read(bytes, room, Rules::Request);
+    held(bytes, request, text_words::read(bytes, text_words::AMPLE, Rules::Crate), text_crate::read)
+}
+
+/// Holds the crate's reading to the one that is expected of it, and that to document 02's.
+fn held<C: PartialEq + Debug>(bytes: &[u8], request: Reading<C>, expected: Reading<C>, reads: fn(&[u8]) -> Result<C, Refused>) -> Result<Compared<C>, String> {
+    let by_crate = reads(bytes);
+    let alike = match (&expected, &by_crate) {
+        (Ok((circuit, used)), Ok(read)) => circuit == read && ends_at(bytes, *used, read, reads),
+        (Err(listed), Err(given)) => (listed.number, listed.place) == (given.number, given.place),
+        _ => false,
     };
-    Ok(Compared { request, line, crate_takes: by_crate.is_ok() })
+    match (alike, difference(&request, &expected)) {
+        (true, Ok(line)) => Ok(Compared { request, line, crate_takes: by_crate.is_ok() }),
+        _ => Err(format!("the crate: {}; as it is listed: {}", shown(&by_crate), shown(&expected.map(|(circuit, _)| circuit)))),
+    }
 }
 
 /// Whether so many bytes are all that the crate needs: with a byte less it refuses the file.
-fn ends_at(bytes: &[u8], used: usize, circuit: &Ordered) -> bool {
-    file_crate::read(&bytes[..used]).as_ref() == Ok(circuit) && file_crate::read(&bytes[..used - 1]).is_err()
+fn ends_at<C: PartialEq>(bytes: &[u8], used: usize, circuit: &C, reads: fn(&[u8]) -> Result<C, Refused>) -> bool {
+    reads(&bytes[..used]).as_ref() == Ok(circuit) && reads(&bytes[..used - 1]).is_err()
 }
 
 /// The line that tells two readings apart, none where they are the same.
-fn difference(request: &Reading, by_crate: &Reading) -> Result<Option<Line>, ()> {
-    let given = |reading: &Reading| reading.as_ref().err().map(|refused| (refused.number, refused.place));
+fn difference<C: PartialEq>(request: &Reading<C>, by_crate: &Reading<C>) -> Result<Option<Line>, ()> {
+    let given = |reading: &Reading<C>| reading.as_ref().err().map(|refused| (refused.number, refused.place));
     if given(request) == given(by_crate) {
         return if given(request).is_some() || request == by_crate { Ok(None) } else { Err(()) };
     }
@@ -47,12 +58,8 @@ fn difference(request: &Reading, by_crate: &Reading) -> Result<Option<Line>, ()>
     first.line.map(Some).ok_or(())
 }
 
-fn without_place(reading: &Reading) -> Result<Ordered, Refused> {
-    reading.clone().map(|(circuit, _)| circuit)
-}
-
 /// A reading in words.
-pub fn shown(reading: &Result<Ordered, Refused>) -> String {
+pub fn shown<C: Debug>(reading: &Result<C, Refused>) -> String {
     match reading {
         Ok(circuit) => format!("takes {circuit:?}"),
         Err(refused) => format!("{} at {}", refused.number, refused.place),

@@ -17,6 +17,7 @@ macro_rules! all {
         }
     };
 }
+pub(crate) use all;
 
 fn staged(bytes: &[u8]) -> Result<Ordered, ParseError> {
     let parser = binary::Parser::<u32>::from_read(bytes, binary::Config::default())?;
@@ -81,18 +82,21 @@ pub fn record(circuit: &Ordered) -> aig::Aig<u32> {
 
 /// The documents' number for a message of the crate, and the place that it names. What follows `found` is quoted from the file, and no message is looked at
 /// that far.
-fn refused(error: ParseError, bytes: &[u8]) -> Refused {
+pub(crate) fn refused(error: ParseError, bytes: &[u8]) -> Refused {
     let error = match *error {
         InnerParseError::SyntaxError(error) => error,
         InnerParseError::IoError(error) => panic!("{error}"),
     };
     let message = error.msg.split(", found ").next().unwrap();
     let number = match message {
-        "expected binary AIGER header \"aig\"" | "expected a space character" | "expected a newline" | "expected a space or newline" => 18,
+        "expected binary AIGER header \"aig\"" | "expected ASCII AIGER header \"aag\"" => 18,
+        "expected a space character" | "expected a newline" | "expected a space or newline" => 18,
         "expected end of file" => 15,
         _ if message.starts_with("expected ") => 10,
         _ if message.starts_with("invalid initialization literal ") => 22,
         _ if message.contains("has leading zeros") => 11,
+        _ if message.ends_with(" is constant false") => 13,
+        _ if message.ends_with(" is negated (odd)") => 14,
         _ if message.contains(" exceeds the ") => token_line::told_apart(12, &bytes[error.position..]),
         _ if message.contains("uses more bytes than required") => 16,
         _ if message.starts_with("encoded delta ") => 17,

@@ -42,7 +42,7 @@ pub struct Sizes {
 }
 
 impl Sizes {
-    fn any(random: &mut Random, gates: u64) -> Sizes {
+    pub fn any(random: &mut Random, gates: u64) -> Sizes {
         let mut few = |most: u64| match random.below(8) {
             0 => random.below(most + 1),
             _ => random.below(4.min(most + 1)),
@@ -54,7 +54,8 @@ impl Sizes {
         Sizes { inputs, latches, gates, roots, spelled: random.index(5) }
     }
 
-    fn header(&self) -> Vec<u64> {
+    /// The counts that stand in the header, M as it has to be.
+    pub fn header(&self) -> Vec<u64> {
         let [outputs, optional @ ..] = self.roots;
         let last = optional.iter().rposition(|&count| count > 0).map_or(0, |index| index + 1);
         let mut header = vec![self.inputs + self.latches + self.gates, self.inputs, self.latches, outputs, self.gates];
@@ -85,14 +86,19 @@ pub fn of_sizes(random: &mut Random, sizes: Sizes) -> Parts {
     Parts { header, lines, gates, after: vec![], cut: false }
 }
 
-/// A latch's line: without a reset in the first style, with one that is not 0 or none in the second, and in the others with any or none.
+/// A latch's line.
 fn latch(random: &mut Random, codes: u64, own: u64, style: u64) -> String {
     let next = random.below(codes);
+    format!("{next}{}", a_reset(random, own, style).map_or(String::new(), |reset| format!(" {reset}")))
+}
+
+/// A latch's reset: none in the first style, one that is not 0 or none in the second, and in the others any or none.
+pub fn a_reset(random: &mut Random, own: u64, style: u64) -> Option<u64> {
     match (style, random.below(6)) {
-        (0, _) | (_, 0 | 1) | (1, 2) => next.to_string(),
-        (_, 2) => format!("{next} 0"),
-        (_, 3) => format!("{next} 1"),
-        _ => format!("{next} {own}"),
+        (0, _) | (_, 0 | 1) | (1, 2) => None,
+        (_, 2) => Some(0),
+        (_, 3) => Some(1),
+        _ => Some(own),
     }
 }
 
@@ -105,18 +111,7 @@ fn other_reset(random: &mut Random, parts: &mut Parts) {
         return;
     }
     let index = random.below(latches);
-    let (own, largest) = (2 * (inputs + 1 + index), 2 * top + 1);
-    let reset = match random.below(12) {
-        0..=2 => (own ^ 1).to_string(),
-        3 => (own + 2).to_string(),
-        4 => (own - 2).to_string(),
-        5 => random.pick(&[2, 3]).to_string(),
-        6 => random.pick(&[largest, largest + 1]).to_string(),
-        7 => random.pick(&EDGES).to_string(),
-        8 => format!("0{own}"),
-        9 => own.to_string(),
-        _ => random.below(largest + 1).to_string(),
-    };
+    let reset = a_stray_reset(random, 2 * (inputs + 1 + index), 2 * top + 1);
     let line = &mut parts.lines[index as usize];
     let next = line.split(' ').next().unwrap_or_default().to_string();
     *line = format!("{next} {reset}{}", random.pick(&["", "", "", "", "x", " ", " 1", "\r"]));
@@ -126,6 +121,21 @@ fn other_reset(random: &mut Random, parts: &mut Parts) {
         parts.gates.clear();
         parts.after.clear();
         parts.cut = random.bit() == 1;
+    }
+}
+
+/// A reset that is another than the latch's, or hardly one.
+pub fn a_stray_reset(random: &mut Random, own: u64, largest: u64) -> String {
+    match random.below(12) {
+        0..=2 => (own ^ 1).to_string(),
+        3 => (own + 2).to_string(),
+        4 => (own - 2).to_string(),
+        5 => random.pick(&[2, 3]).to_string(),
+        6 => random.pick(&[largest, largest + 1]).to_string(),
+        7 => random.pick(&EDGES).to_string(),
+        8 => format!("0{own}"),
+        9 => own.to_string(),
+        _ => random.below(largest + 1).to_string(),
     }
 }
 
@@ -178,7 +188,7 @@ fn zero_delta(random: &mut Random, parts: &mut Parts) {
 }
 
 /// Where numbers change their answer, beside those near a file's own.
-const EDGES: [&str; 18] = [
+pub const EDGES: [&str; 18] = [
     "0", "1", "2", "00", "01", "1048574", "1048575", "1048576", "2097150", "2097151", "2147483647", "2147483648", "4294967295", "4294967296",
     "18446744073709551615", "18446744073709551616", "018446744073709551616", "99999999999999999999",
 ];
@@ -267,10 +277,10 @@ const FAULTS: [(u64, Fault); 18] = [
 ];
 
 /// What may follow the last gate.
-const AFTER: [&[u8]; 8] = [b"", b"\n", b"i0 x\n", b"o0 y\nc\nwords\n", b"b0 z\n", b"junk", b"\x80\x80\x80", b"\x00\xff"];
+pub const AFTER: [&[u8]; 8] = [b"", b"\n", b"i0 x\n", b"o0 y\nc\nwords\n", b"b0 z\n", b"junk", b"\x80\x80\x80", b"\x00\xff"];
 
 /// One fault in the bytes.
-fn damage(random: &mut Random, bytes: &mut Vec<u8>) {
+pub fn damage(random: &mut Random, bytes: &mut Vec<u8>) {
     if bytes.is_empty() {
         return;
     }
@@ -314,14 +324,7 @@ pub fn any(random: &mut Random, gates: u64) -> Vec<u8> {
     }
     let kind = random.below(6);
     for _ in 0..[0, 0, 1, 1, 0, 2][kind as usize] {
-        let mut share = random.below(FAULTS.iter().map(|fault| fault.0).sum());
-        for (size, fault) in FAULTS {
-            if share < size {
-                fault(random, &mut parts);
-                break;
-            }
-            share -= size;
-        }
+        random.share(&FAULTS)(random, &mut parts);
     }
     let mut bytes = parts.bytes();
     for _ in 0..[0, 0, 0, 1, 1, 2][kind as usize] {
@@ -347,7 +350,8 @@ pub fn short(letters: u32, groups: u32, mut tell: impl FnMut(&[u8])) {
     GATES.iter().for_each(|beginning| endings(beginning, &GROUPS, groups, &mut tell));
 }
 
-fn endings(beginning: &[u8], alphabet: &[u8], most: u32, mut tell: impl FnMut(&[u8])) {
+/// Every file with up to so many bytes of an alphabet behind a beginning.
+pub fn endings(beginning: &[u8], alphabet: &[u8], most: u32, mut tell: impl FnMut(&[u8])) {
     let count = alphabet.len();
     for length in 0..=most {
         for choice in 0..count.pow(length) {

@@ -3,6 +3,9 @@
 /// The header's numbers that go down together when a part of the file goes: M with I, L or A; O; B; C; J; F; and none.
 const TOGETHER: [&[usize]; 9] = [&[], &[1, 2], &[1, 3], &[1, 5], &[4], &[6], &[7], &[8], &[9]];
 
+/// Those that do in a text, where M may be above the others.
+const APART: [&[usize]; 4] = [&[1], &[2], &[3], &[5]];
+
 pub fn smallest(mut bytes: Vec<u8>, differ: impl Fn(&[u8]) -> bool) -> Vec<u8> {
     while let Some(smaller) = candidates(&bytes).into_iter().find(|candidate| differ(candidate)) {
         bytes = smaller;
@@ -12,7 +15,8 @@ pub fn smallest(mut bytes: Vec<u8>, differ: impl Fn(&[u8]) -> bool) -> Vec<u8> {
 
 fn candidates(bytes: &[u8]) -> Vec<Vec<u8>> {
     let mut all = parts_away(bytes);
-    all.extend(TOGETHER.iter().filter_map(|words| counted_down(bytes, words)).flat_map(|fewer| {
+    let text = bytes.starts_with(b"aag ");
+    all.extend(TOGETHER.iter().chain(APART.iter().filter(|_| text)).filter_map(|words| counted_down(bytes, words)).flat_map(|fewer| {
         let mut all = lines_away(&fewer);
         all.extend(gate_bytes_away(&fewer));
         all.push(fewer);
@@ -20,6 +24,9 @@ fn candidates(bytes: &[u8]) -> Vec<Vec<u8>> {
     }));
     all.extend(last_count_away(bytes));
     all.extend(sources_away(bytes).into_iter().flatten());
+    if text {
+        all.extend(variables_down(bytes).into_iter().flatten());
+    }
     all.extend(lower_bytes(bytes));
     // each is smaller: shorter, or as long and before it
     all.retain(|candidate| (candidate.len(), &candidate[..]) < (bytes.len(), bytes));
@@ -118,4 +125,19 @@ fn lower_bytes(bytes: &[u8]) -> Vec<Vec<u8>> {
         }
     }
     all
+}
+
+/// Each variable behind a text's header in the place of the one before it.
+fn variables_down(bytes: &[u8]) -> Option<Vec<Vec<u8>>> {
+    let end = bytes.iter().position(|&byte| byte == b'\n')?;
+    let (header, lines) = std::str::from_utf8(bytes).ok()?.split_at(end);
+    let down = |variable: u64| {
+        let word = |word: &str| match word.trim_end().parse::<u64>() {
+            Ok(code) if code / 2 == variable => format!("{}{}", code - 2, &word[word.trim_end().len()..]),
+            _ => word.to_string(),
+        };
+        let lines = lines.split_inclusive([' ', '\n']).map(word).collect::<String>();
+        format!("{header}{lines}").into_bytes()
+    };
+    Some((2..20).map(down).collect())
 }

@@ -1,5 +1,6 @@
 //! Requests, the binary file, read as document 02's words have it and not as the crate's code does. By the other `Rules` it reads as the crate
-//! would, were the lines of docs/DIFFERENCES.md all that sets the two apart: so that those lines can be held to the crate, each by itself.
+//! would, were the lines of docs/DIFFERENCES.md all that sets the two apart: so that those lines can be held to the crate, each by itself. The header, latch lines
+//! and the root section are the text file's too (`text_words`).
 
 /// Every count and size of the request is at most this, and so are the roots.
 pub const LIMIT: u64 = 1_048_575;
@@ -80,7 +81,7 @@ impl Ordered {
 }
 
 /// What a file is read as, and how many of its bytes that takes.
-pub type Reading = Result<(Ordered, usize), Refused>;
+pub type Reading<C = Ordered> = Result<(C, usize), Refused>;
 
 /// How many words of next states, resets, gates, sizes and roots are lent.
 pub type Room = [usize; 5];
@@ -89,29 +90,43 @@ pub type Room = [usize; 5];
 pub const AMPLE: Room = [usize::MAX; 5];
 
 /// The counts of the first line.
-struct Header {
-    top: u64,
-    inputs: u64,
-    latches: u64,
+pub(crate) struct Header {
+    pub top: u64,
+    pub inputs: u64,
+    pub latches: u64,
     outputs: u64,
-    gates: u64,
+    pub gates: u64,
     bad: u64,
     constraints: u64,
-    justice: u64,
+    pub justice: u64,
     fairness: u64,
 }
 
-/// A place in the bytes.
-struct Reader<'a> {
-    bytes: &'a [u8],
-    place: usize,
-    rules: Rules,
+impl Header {
+    /// How many roots there are without the justice literals, which the header does not count.
+    pub fn roots(&self) -> u64 {
+        self.outputs + self.bad + self.constraints + self.fairness
+    }
 }
 
-type Part<T> = Result<T, Refused>;
+/// What the root section holds.
+pub(crate) struct Roots {
+    pub sizes: Vec<u64>,
+    pub counts: [u64; 5],
+    pub roots: Vec<u64>,
+}
+
+/// A place in the bytes.
+pub(crate) struct Reader<'a> {
+    pub bytes: &'a [u8],
+    pub place: usize,
+    pub rules: Rules,
+}
+
+pub(crate) type Part<T> = Result<T, Refused>;
 
 impl Reader<'_> {
-    fn refuse<T>(&self, number: u64, line: Option<Line>) -> Part<T> {
+    pub fn refuse<T>(&self, number: u64, line: Option<Line>) -> Part<T> {
         Err(Refused { number, place: self.place, line })
     }
 
@@ -120,7 +135,7 @@ impl Reader<'_> {
     }
 
     /// A space or a newline that has to stand here.
-    fn byte(&mut self, byte: u8) -> Part<()> {
+    pub fn byte(&mut self, byte: u8) -> Part<()> {
         if !self.stands(byte) {
             return self.refuse(18, None);
         }
@@ -129,7 +144,7 @@ impl Reader<'_> {
     }
 
     /// A decimal number: the limit of the request, that of the crate, and the line that tells of it where they are not the same.
-    fn number(&mut self, request: u64, by_crate: u64, line: Option<Line>) -> Part<u64> {
+    pub fn number(&mut self, request: u64, by_crate: u64, line: Option<Line>) -> Part<u64> {
         let rest = &self.bytes[self.place..];
         let length = rest.iter().take_while(|byte| byte.is_ascii_digit()).count();
         if length == 0 {
@@ -169,8 +184,9 @@ impl Reader<'_> {
         Ok(literals)
     }
 
-    fn header(&mut self) -> Part<Header> {
-        if !self.bytes.starts_with(b"aig") {
+    /// The first line, which begins with the tag.
+    pub fn header(&mut self, tag: &[u8; 3]) -> Part<Header> {
+        if !self.bytes.starts_with(tag) {
             return self.refuse(18, None);
         }
         self.place = 3;
@@ -191,23 +207,25 @@ impl Reader<'_> {
         Ok(Header { top, inputs, latches, outputs, gates, bad, constraints, justice, fairness })
     }
 
-    /// Right after the header: 19, then 3 for any short list but the roots'.
-    fn fits(&self, header: &Header, room: Room) -> Part<()> {
-        if self.rules == Rules::Crate {
-            return Ok(());
+    /// Right after the header: 19 where M is above what is defined.
+    fn defined(&self, header: &Header) -> Part<()> {
+        match self.rules == Rules::Request && header.top > header.inputs + header.latches + header.gates {
+            true => self.refuse(19, Some(Line::Above)),
+            false => Ok(()),
         }
-        if header.top > header.inputs + header.latches + header.gates {
-            return self.refuse(19, Some(Line::Above));
-        }
-        let needed = [header.latches, header.latches, 2 * header.gates, header.justice];
-        match needed.iter().zip(room).any(|(&words, lent)| words > lent as u64) {
+    }
+
+    /// Then 3 for any short list but the roots'.
+    pub fn fits(&self, needed: &[u64], room: &[usize]) -> Part<()> {
+        let short = needed.iter().zip(room).any(|(&words, &lent)| words > lent as u64);
+        match self.rules == Rules::Request && short {
             true => self.refuse(3, Some(Line::Short)),
             false => Ok(()),
         }
     }
 
     /// A latch's next state and its reset, 0 where there is none. One that is not 0, 1 or the latch is told before what follows it is looked at.
-    fn latch(&mut self, largest: u64, own: u64) -> Part<(u64, u64)> {
+    pub fn latch(&mut self, largest: u64, own: u64) -> Part<(u64, u64)> {
         let next = self.number(largest, largest, None)?;
         if !self.stands(b' ') {
             self.byte(b'\n')?;
@@ -236,13 +254,31 @@ impl Reader<'_> {
     }
 
     /// Where the sizes end: 1 for the number of roots, then 3 for a short root list.
-    fn roots_fit(&self, roots: u128, room: Room) -> Part<()> {
+    fn roots_fit(&self, roots: u128, room: usize) -> Part<()> {
         match self.rules {
             Rules::Crate => Ok(()),
             Rules::Request if roots > LIMIT as u128 => self.refuse(1, Some(Line::TooMany)),
-            Rules::Request if roots > room[4] as u128 => self.refuse(3, Some(Line::Short)),
+            Rules::Request if roots > room as u128 => self.refuse(3, Some(Line::Short)),
             Rules::Request => Ok(()),
         }
+    }
+
+    /// The root section, into so many words for the roots.
+    pub fn roots(&mut self, header: &Header, room: usize) -> Part<Roots> {
+        let &Header { top, outputs, bad, constraints, justice, fairness, .. } = header;
+        let largest = 2 * top + 1;
+        let mut roots = vec![];
+        for count in [outputs, bad, constraints] {
+            roots.extend(self.literals(count, largest)?);
+        }
+        let sizes = self.sizes(justice)?;
+        let literals: u64 = sizes.iter().sum();
+        let counts = [outputs, bad, constraints, fairness, literals];
+        self.roots_fit(counts.iter().map(|&count| count as u128).sum(), room)?;
+        let justice = self.literals(literals, largest)?;
+        roots.extend(self.literals(fairness, largest)?);
+        roots.extend(justice);
+        Ok(Roots { sizes, counts, roots })
     }
 
     /// The code that stands by a delta below its reference.
@@ -277,30 +313,21 @@ impl Reader<'_> {
     }
 
     fn file(&mut self, room: Room) -> Part<Ordered> {
-        let header = self.header()?;
-        self.fits(&header, room)?;
-        let Header { top, inputs, latches, outputs, gates, bad, constraints, justice, fairness } = header;
-        let largest = 2 * top + 1;
+        let header = self.header(b"aig")?;
+        let Header { top, inputs, latches, gates, justice, .. } = header;
+        self.defined(&header)?;
+        self.fits(&[latches, latches, 2 * gates, justice], &room)?;
         let mut circuit = Ordered { top, inputs, ..Ordered::default() };
         for index in 0..latches {
-            let (next, reset) = self.latch(largest, 2 * (inputs + 1 + index))?;
+            let (next, reset) = self.latch(2 * top + 1, 2 * (inputs + 1 + index))?;
             circuit.nexts.push(next);
             circuit.resets.push(reset);
         }
-        for count in [outputs, bad, constraints] {
-            circuit.roots.extend(self.literals(count, largest)?);
-        }
-        circuit.sizes = self.sizes(justice)?;
-        let literals: u64 = circuit.sizes.iter().sum();
-        circuit.counts = [outputs, bad, constraints, fairness, literals];
-        self.roots_fit(circuit.counts.iter().map(|&count| count as u128).sum(), room)?;
-        let justice = self.literals(literals, largest)?;
-        circuit.roots.extend(self.literals(fairness, largest)?);
-        circuit.roots.extend(justice);
+        let Roots { sizes, counts, roots } = self.roots(&header, room[4])?;
         for index in 0..gates {
             circuit.gates.extend(self.pair(2 * (inputs + latches + 1 + index))?);
         }
-        Ok(circuit)
+        Ok(Ordered { sizes, counts, roots, ..circuit })
     }
 }
 
@@ -314,11 +341,8 @@ pub fn read(bytes: &[u8], room: Room, rules: Rules) -> Reading {
 /// How many words of each list a file asks for, as far as its numbers can be read.
 pub fn needed(bytes: &[u8]) -> Room {
     let mut reader = Reader { bytes, place: 0, rules: Rules::Request };
-    let Ok(header) = reader.header() else { return [0; 5] };
-    let Header { latches, outputs, gates, bad, constraints, justice, fairness, .. } = header;
-    let roots = match read(bytes, AMPLE, Rules::Request) {
-        Ok((circuit, _)) => circuit.roots.len() as u64,
-        Err(_) => outputs + bad + constraints + fairness,
-    };
+    let Ok(header) = reader.header(b"aig") else { return [0; 5] };
+    let Header { latches, gates, justice, .. } = header;
+    let roots = read(bytes, AMPLE, Rules::Request).map_or(header.roots(), |(circuit, _)| circuit.roots.len() as u64);
     [latches, latches, 2 * gates, justice, roots].map(|words| words as usize)
 }

@@ -46,6 +46,18 @@ impl Random {
         list[self.index(list.len())]
     }
 
+    /// One of a list, each by its share.
+    pub fn share<T: Copy>(&mut self, list: &[(u64, T)]) -> T {
+        let mut left = self.below(list.iter().map(|(size, _)| size).sum());
+        for &(size, item) in list {
+            if left < size {
+                return item;
+            }
+            left -= size;
+        }
+        unreachable!("a share of something")
+    }
+
     pub fn shuffle<T>(&mut self, list: &mut [T]) {
         for last in (1..list.len()).rev() {
             list.swap(last, self.index(last + 1));

@@ -1,7 +1,10 @@
 //! A circuit written by the crate's `Writer::write_ordered_aig`.
-use crate::{circuit::start, write_words::Given};
+use crate::{
+    circuit::start,
+    write_words::{Form, Given},
+};
 use flussab::DeferredWriter;
-use flussab_aiger::{aig, binary};
+use flussab_aiger::{aig, ascii, binary};
 use std::panic;
 
 /// The crate's record of a circuit of which it has one. `top` is its `max_var_index`.
@@ -28,13 +31,22 @@ pub fn record(given: &Given, top: u64) -> aig::OrderedAig<u32> {
 }
 
 /// The bytes that the crate writes, or none where it panics.
-pub fn write(record: &aig::OrderedAig<u32>) -> Option<Vec<u8>> {
+pub fn write(record: &aig::OrderedAig<u32>, form: Form) -> Option<Vec<u8>> {
     panic::catch_unwind(|| {
         let mut bytes = vec![];
-        let mut writer = binary::Writer::<u32>::new(DeferredWriter::from_write(&mut bytes));
-        writer.write_ordered_aig(record);
-        writer.check_io_error().expect("memory takes all bytes");
-        drop(writer);
+        let mut writer = DeferredWriter::from_write(&mut bytes);
+        match form {
+            Form::Binary => {
+                let mut binary = binary::Writer::<u32>::new(writer);
+                binary.write_ordered_aig(record);
+                binary.check_io_error().expect("memory takes all bytes");
+            }
+            Form::Text => {
+                ascii::Writer::<u32>::new(&mut writer).write_ordered_aig(record);
+                writer.check_io_error().expect("memory takes all bytes");
+                drop(writer);
+            }
+        }
         bytes
     })
     .ok()

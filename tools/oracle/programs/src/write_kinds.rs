@@ -1,5 +1,9 @@
 //! Ordered circuits to be written: every small one of some forms, good ones of every shape, ones with a fault, and ones at the limits.
-use crate::{file_words::LIMIT, random::Random, write_words::Given};
+use crate::{
+    file_words::LIMIT,
+    random::Random,
+    write_words::{Form, Given},
+};
 
 /// Where a number has a digit more, or a delta a byte more, and the ends of both.
 const BORDERS: [u64; 24] = [
@@ -55,14 +59,19 @@ fn any_code(random: &mut Random, codes: u64) -> u32 {
     }
 }
 
-/// A good circuit of up to so many gates.
-pub fn good(random: &mut Random, most: u64) -> Given {
+/// A good circuit of up to so many gates, to be written in a form.
+pub fn good(random: &mut Random, most: u64, form: Form) -> Given {
     let mut few = |most: u64| match random.below(8) {
         0 => random.below(most + 1),
         _ => random.below(5.min(most + 1)),
     };
     let [latches, gates] = [few(most / 4), few(most)];
-    let left = LIMIT - latches - gates;
+    let left = match form {
+        Form::Binary => LIMIT - latches - gates,
+        // a text has a line for each input, so few have many
+        Form::Text if random.below(2_000) == 0 => LIMIT - latches - gates,
+        Form::Text => random.pick(&[9, 60, 600]),
+    };
     let inputs = match random.below(8) {
         // codes as large as they come, without a list as long
         0 => left,
@@ -237,25 +246,22 @@ const FAULTS: [(u64, Fault); 21] = [
     }),
 ];
 
-/// A circuit of any kind, of up to so many gates: half of them good, the others with one to three faults.
-pub fn any(random: &mut Random, gates: u64) -> Given {
-    let mut given = good(random, gates);
+/// A circuit of any kind, of up to so many gates, to be written in a form: half of them good, the others with one to three faults.
+pub fn any(random: &mut Random, gates: u64, form: Form) -> Given {
+    let mut given = good(random, gates, form);
     for _ in 0..[0, 0, 0, 0, 1, 1, 2, 3][random.index(8)] {
-        let mut share = random.below(FAULTS.iter().map(|fault| fault.0).sum());
-        for (size, fault) in FAULTS {
-            if share < size {
-                fault(random, &mut given);
-                break;
-            }
-            share -= size;
-        }
+        random.share(&FAULTS)(random, &mut given);
     }
-    given
+    // of those that a fault gave a text of a million lines a few are enough
+    match form == Form::Text && (20_000..LIMIT + 9).contains(&(given.inputs as u64)) && random.below(500) > 0 {
+        true => any(random, gates, form),
+        false => given,
+    }
 }
 
 /// As many bytes as the file has, more, or fewer.
-pub fn room(random: &mut Random, given: &Given) -> usize {
-    let exact = if given.fault().is_some() { random.index(60) } else { given.bytes(given.top()).map_or(0, |bytes| bytes.len()) };
+pub fn room(random: &mut Random, given: &Given, form: Form) -> usize {
+    let exact = if given.fault(form).is_some() { random.index(60) } else { given.bytes(form, given.top()).map_or(0, |bytes| bytes.len()) };
     match random.below(20) {
         0 => exact.saturating_sub(1),
         1 => random.index(exact + 1),
@@ -265,8 +271,8 @@ pub fn room(random: &mut Random, given: &Given) -> usize {
 
 /// Every circuit of two gates over an input or with a root, and of one gate with two latches, with two inputs and a root, or with an input, a latch and a
 /// root, and of two latches and an input, of all codes up to 2V+2, one more than there are, resets too; every shape with up to two inputs, latches and gates and up to two of each kind of root, in up to two
-/// justice sets; and each pair of deltas at a border.
-pub fn small(random: &mut Random, mut tell: impl FnMut(&Given)) {
+/// justice sets; and each pair of deltas at a border, in a text where the numbers have up to four digits.
+pub fn small(random: &mut Random, form: Form, mut tell: impl FnMut(&Given)) {
     for (inputs, latches, gates, roots) in [(0, 0, 0, 0), (1, 0, 2, 0), (0, 0, 2, 1), (1, 1, 1, 1), (0, 2, 1, 0), (2, 0, 1, 1), (1, 2, 0, 0)] {
         let bound: u32 = 2 * (inputs + latches + gates) + 3;
         let codes = 2 * latches + 2 * gates + roots;
@@ -285,9 +291,10 @@ pub fn small(random: &mut Random, mut tell: impl FnMut(&Given)) {
             tell(&of_sizes(random, inputs, latches, gates, counts, sets));
         }
     }
+    let most = if form == Form::Text { 1_000 } else { LIMIT };
     for first in BORDERS {
         for second in BORDERS {
-            for top in BORDERS.map(|border| border.clamp(1, LIMIT)) {
+            for top in BORDERS.map(|border| border.clamp(1, most)) {
                 let code = 2 * top;
                 if first <= code && first + second <= code {
                     let gates = vec![(code - first) as u32, (code - first - second) as u32];

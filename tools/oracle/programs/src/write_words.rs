@@ -1,5 +1,5 @@
-//! Requests, writing an ordered circuit as a binary file, as document 02's words have it and not as the crate's code does. By the other `Rules` it writes as
-//! the crate would, were the lines of docs/DIFFERENCES.md all that sets the two apart: so that those lines can be held to the crate, each by itself.
+//! Requests, writing an ordered circuit as a binary file or as a text, as document 02's words have it and not as the crate's code does. What is
+//! refused is written as the crate would, were the lines of docs/DIFFERENCES.md all that sets the two apart: so that those lines can be held to the crate, each by itself.
 use crate::{
     circuit::put,
     file_words::{Ordered, LIMIT},
@@ -20,6 +20,23 @@ pub struct Given {
     pub roots: Vec<u32>,
 }
 
+/// What a circuit is written as.
+#[derive(Clone, Copy, PartialEq, Eq, Debug)]
+pub enum Form {
+    Binary,
+    Text,
+}
+
+impl Form {
+    /// With which word a file begins.
+    fn tag(self) -> &'static str {
+        match self {
+            Form::Binary => "aig",
+            Form::Text => "aag",
+        }
+    }
+}
+
 /// Why nothing is written: the number, the literal at fault, and for 3 the bytes needed.
 #[derive(Clone, Copy, PartialEq, Eq, Debug)]
 pub struct Unwritten {
@@ -38,6 +55,7 @@ pub enum Line {
     Swapped,
     Own,
     Above,
+    Disordered,
     Short,
 }
 
@@ -52,6 +70,7 @@ impl Line {
             Line::Swapped => "a gate's first input below its second (23), which the crate exchanges",
             Line::Own => "a gate's first input its own code (23), which the crate writes as a first delta of zero",
             Line::Above => "a gate's larger input above its own code (23), where the crate panics",
+            Line::Disordered => "a gate out of order (23), which the crate writes in a text as it stands",
             Line::Short => "lent bytes too few (3)",
         }
     }
@@ -117,7 +136,7 @@ impl Given {
     }
 
     /// The first of the checks 1, 2, 4, 22 and 23 that does not pass, with the line that tells how the crate takes it.
-    pub fn fault(&self) -> Option<(Unwritten, Line)> {
+    pub fn fault(&self, form: Form) -> Option<(Unwritten, Line)> {
         let no = |number, literal, line| Some((Unwritten { number, literal, needed: 0 }, line));
         if self.counts.len() != 5 {
             return no(2, 0, Line::Shape);
@@ -141,6 +160,7 @@ impl Given {
         for (code, first, second) in self.coded() {
             if first >= code || first < second {
                 let line = match first.max(second) {
+                    _ if form == Form::Text => Line::Disordered,
                     _ if first < second && second <= code => Line::Swapped,
                     larger if larger == code => Line::Own,
                     _ => Line::Above,
@@ -151,28 +171,51 @@ impl Given {
         None
     }
 
-    /// The file's bytes, where the lists are those that the counts tell of; none where the crate stops. `top` is the M that stands in the header. A pair that is
-    /// out of order is exchanged, as the crate does; document 02 has none.
-    pub fn bytes(&self, top: u64) -> Option<Vec<u8>> {
+    /// The file's bytes, where the lists are those that the counts tell of; none where the crate stops. `top` is the M that stands in the header. In a binary file a
+    /// pair that is out of order is exchanged, as the crate does; document 02 has none.
+    pub fn bytes(&self, form: Form, top: u64) -> Option<Vec<u8>> {
         let [outputs, bad, constraints, fairness, _] = self.counts[..] else { return None };
         let mut header: Vec<u64> = vec![top, self.inputs as u64, self.nexts.len() as u64, outputs as u64, self.gates.len() as u64 / 2];
         let optional = [bad as u64, constraints as u64, self.sizes.len() as u64, fairness as u64];
         let last = optional.iter().rposition(|&count| count > 0).map_or(0, |index| index + 1);
         header.extend(&optional[..last]);
-        let mut text = String::from("aig");
+        let mut text = String::from(form.tag());
         header.iter().for_each(|count| text.push_str(&format!(" {count}")));
         text.push('\n');
+        self.sources(form, &mut text);
         // the walk's order is outputs, bad, constraints, fairness, justice; the file's has justice before fairness
         let kept = outputs as usize + bad as usize + constraints as usize;
         let (first, rest) = self.roots.split_at(kept);
         let (fair, justice) = rest.split_at(fairness as usize);
-        let mut lines: Vec<String> = self.nexts.iter().zip(&self.resets).map(|(next, reset)| match reset {
-            0 => next.to_string(),
-            _ => format!("{next} {reset}"),
-        }).collect();
-        lines.extend(first.iter().chain(&self.sizes).chain(justice).chain(fair).map(u32::to_string));
-        lines.iter().for_each(|line| text.extend([line, "\n"]));
-        let mut bytes = text.into_bytes();
+        let lines = first.iter().chain(&self.sizes).chain(justice).chain(fair);
+        lines.for_each(|line| text.push_str(&format!("{line}\n")));
+        match form {
+            Form::Text => {
+                self.coded().for_each(|(code, first, second)| text.push_str(&format!("{code} {first} {second}\n")));
+                Some(text.into_bytes())
+            }
+            Form::Binary => self.deltas(text.into_bytes()),
+        }
+    }
+
+    /// The lines of inputs, which a binary file does not have, and of latches, where it has no states. A reset stands there only where it is not 0.
+    fn sources(&self, form: Form, text: &mut String) {
+        if form == Form::Text {
+            (1..=self.inputs as u64).for_each(|variable| text.push_str(&format!("{}\n", 2 * variable)));
+        }
+        for ((next, reset), state) in self.nexts.iter().zip(&self.resets).zip(self.states()) {
+            if form == Form::Text {
+                text.push_str(&format!("{state} "));
+            }
+            match reset {
+                0 => text.push_str(&format!("{next}\n")),
+                _ => text.push_str(&format!("{next} {reset}\n")),
+            }
+        }
+    }
+
+    /// The bytes with the deltas of the gates behind them, none where an input is above its gate.
+    fn deltas(&self, mut bytes: Vec<u8>) -> Option<Vec<u8>> {
         for (code, first, second) in self.coded() {
             let (larger, smaller) = (first.max(second), first.min(second));
             put(&mut bytes, code.checked_sub(larger)?, 1);
@@ -180,14 +223,23 @@ impl Given {
         }
         Some(bytes)
     }
+
+    /// The most bytes that a file of so many variables, latches, roots and justice sets has.
+    pub fn most_bytes(&self, form: Form) -> u64 {
+        let [latches, roots, sets] = [self.nexts.len(), self.roots.len(), self.sizes.len()].map(|length| length as u64);
+        match form {
+            Form::Binary => 76 + 8 * (self.top() + latches + roots + sets),
+            Form::Text => 76 + 8 * (3 * self.top() + roots + sets),
+        }
+    }
 }
 
 /// Writes into so many bytes: the file, or why not.
-pub fn write(given: &Given, room: usize) -> Result<Vec<u8>, Unwritten> {
-    if let Some((refused, _)) = given.fault() {
+pub fn write(given: &Given, form: Form, room: usize) -> Result<Vec<u8>, Unwritten> {
+    if let Some((refused, _)) = given.fault(form) {
         return Err(refused);
     }
-    let bytes = given.bytes(given.top()).expect("a circuit that passes its checks has a file");
+    let bytes = given.bytes(form, given.top()).expect("a circuit that passes its checks has a file");
     match bytes.len() > room {
         true => Err(Unwritten { number: 3, literal: 0, needed: bytes.len() as u64 }),
         false => Ok(bytes),

@@ -6,13 +6,10 @@ use Rattle.answers.proofs.say.file.Statement.{statement}
 use Rattle.answers.proofs.say.file.Tie as tie
 
 abbrev Inv-loop : tie.InvT-loop
-Inv-loop n words i₀ i = i ≤ length words
+Inv-loop letter n words i₀ i = i ≤ length words
 
 abbrev μ-loop : tie.MeasureT-loop
-μ-loop n words i₀ i = length words - i
-
-slice-aggregate-text : tie.Need-slice-aggregate-text Inv-loop μ-loop
-slice-aggregate-text c = search needs
+μ-loop letter n words i₀ i = length words - i
 
 text-requires : tie.Need-text-requires Inv-loop μ-loop
 text-requires c κs = search needs
@@ -50,7 +47,6 @@ file-spec =
     (tie.spec
     Inv-loop
     μ-loop
-    slice-aggregate-text
     text-requires
     number-requires
     loop-holds

@@ -1,18 +1,18 @@
-//! Document 02's words for writing a binary file against the crate's `write_ordered_aig`, byte for byte, on ordered circuits and on what is none.
+//! Document 02's words for writing a binary file, or with --text a text, against the crate's `write_ordered_aig`, byte for byte, on ordered circuits and on what is none.
 //!
-//!     writing small | writing random SEED COUNT MAXGATES | writing large
+//!     writing [--text] small | writing [--text] random SEED COUNT MAXGATES | writing [--text] large
 //!
 //! Prints how many of each answer there were, and for each line of docs/DIFFERENCES.md how many; a difference that is on no line is shrunk and shown, and ends it with 1.
 use judge::{
     random::Random,
     write_compare::compare,
     write_crate, write_kinds, write_shrink,
-    write_words::{Given, Line},
+    write_words::{Form, Given, Line},
 };
 use std::{collections::BTreeMap, process::exit};
 
-#[derive(Default)]
 struct Tally {
+    form: Form,
     circuits: u64,
     answers: BTreeMap<u32, u64>,
     lines: BTreeMap<Line, [u64; 2]>,
@@ -20,7 +20,7 @@ struct Tally {
 
 impl Tally {
     fn compare(&mut self, given: &Given, room: usize) {
-        let found = compare(given, room).unwrap_or_else(|_| differs(given, room));
+        let found = compare(given, self.form, room).unwrap_or_else(|_| differs(given, self.form, room));
         self.circuits += 1;
         *self.answers.entry(found.request.map_or_else(|refused| refused.number, |_| 0)).or_default() += 1;
         if let Some(line) = found.line {
@@ -31,9 +31,9 @@ impl Tally {
     }
 }
 
-fn differs(given: &Given, room: usize) -> ! {
-    let smallest = write_shrink::smallest(given.clone(), |given| compare(given, room).is_err());
-    println!("DIFFERS {smallest:?}, {room} bytes\n  {}", compare(&smallest, room).err().unwrap());
+fn differs(given: &Given, form: Form, room: usize) -> ! {
+    let smallest = write_shrink::smallest(given.clone(), |given| compare(given, form, room).is_err());
+    println!("DIFFERS {smallest:?}, {room} bytes\n  {}", compare(&smallest, form, room).err().unwrap());
     exit(1)
 }
 
@@ -42,20 +42,24 @@ fn main() {
     let arguments: Vec<&str> = arguments.iter().map(String::as_str).collect();
     let number = |text: &str| text.parse::<u64>().expect("a number");
     write_crate::silent();
-    let mut tally = Tally::default();
-    match arguments[..] {
-        ["small"] => write_kinds::small(&mut Random(1), |given| tally.compare(given, usize::MAX)),
+    let (form, run) = match arguments[..] {
+        ["--text", ref run @ ..] => (Form::Text, run),
+        ref run => (Form::Binary, run),
+    };
+    let mut tally = Tally { form, circuits: 0, answers: BTreeMap::new(), lines: BTreeMap::new() };
+    match *run {
+        ["small"] => write_kinds::small(&mut Random(1), form, |given| tally.compare(given, usize::MAX)),
         ["large"] => write_kinds::large(&mut Random(1), |given| tally.compare(given, usize::MAX)),
         ["random", seed, count, gates] => {
             let mut random = Random(number(seed));
             for _ in 0..number(count) {
-                let given = write_kinds::any(&mut random, number(gates));
-                let room = write_kinds::room(&mut random, &given);
+                let given = write_kinds::any(&mut random, number(gates), form);
+                let room = write_kinds::room(&mut random, &given, form);
                 tally.compare(&given, room);
             }
         }
         _ => {
-            eprintln!("usage: writing small | random SEED COUNT MAXGATES | large");
+            eprintln!("usage: writing [--text] small | [--text] random SEED COUNT MAXGATES | [--text] large");
             exit(2)
         }
     }

@@ -1,11 +1,11 @@
--- `put_words` meets its contract: eleven stores from the first word on leave the answer words, and what stood past them. Assumes nothing.
+-- `answered::put_words` meets its contract: eleven stores from the first word on leave the answer words, and what stood past them. Assumes nothing.
 use Prim.Native.Nat.{ℕ}
 use native.Mathlib.Omega.{arith}
 use lib.ListN.{length-set}
 use borrow.Author.Needs.{needs, length-unmapped}
 use Rattle.file_words.proofs.Words.{words-put}
-use Rattle.file_words.proofs.put_words.Statement.{statement}
-use Rattle.file_words.proofs.put_words.Tie as tie
+use Rattle.file_words.proofs.answered.put_words.Statement.{statement}
+use Rattle.file_words.proofs.answered.put_words.Tie as tie
 
 first-word-requires : tie.Need-first-word-requires
 first-word-requires c κs = search needs
@@ -55,12 +55,6 @@ word-requires-9 c κs = search needs
 slice-write-answer : tie.Need-slice-write-answer
 slice-write-answer c = search needs
 
-add-answer : tie.Need-add-answer
-add-answer c = search needs
-
-add-answer-2 : tie.Need-add-answer-2
-add-answer-2 c = search needs
-
 slice-write-answer-2 : tie.Need-slice-write-answer-2
 slice-write-answer-2 c = simp length-set (omega arith)
 
@@ -108,7 +102,7 @@ returns c =
     let entry = firstWordAt .before .before .before in
     let a = entry .args in
     let countsFive = length-unmapped ℕ (a .said .counts) 5 (entry .good .0 .1 .1 .1 .1 .1 .1 .0 .1 .0 .1) in
-    words-put (a .said) (a .answer .now) (entry .pre) countsFive (firstWordAt .first-word .ensures) (wordAt .word .ensures .same)
+    words-put (a .said) (a .top) (a .answer .now) (entry .pre) countsFive (firstWordAt .first-word .ensures) (wordAt .word .ensures .same)
     (word2At .word2 .ensures .same) (word3At .word3 .ensures .same) (word4At .word4 .ensures .same) (word5At .word5 .ensures .same)
     (word6At .word6 .ensures .same) (word7At .word7 .ensures .same) (word8At .word8 .ensures .same) (c .word9 .ensures .same)
 
@@ -132,8 +126,6 @@ put-words-spec =
     word-requires-8
     word-requires-9
     slice-write-answer
-    add-answer
-    add-answer-2
     slice-write-answer-2
     slice-write-answer-3
     slice-write-answer-4

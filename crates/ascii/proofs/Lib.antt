@@ -1,0 +1,16 @@
+pub mod Table
+pub mod Seven
+pub mod Files
+pub mod Whole
+pub mod Reading
+pub mod Known
+pub mod NeverShort
+pub mod WriteParts
+pub mod WriteMost
+pub mod WriteFitting
+pub mod WriteSpelled
+pub mod WritePins
+pub mod Written
+pub mod Chain
+pub mod Pins
+pub mod Theorems

@@ -1,0 +1,9 @@
+pub mod Tag
+pub mod Text
+pub mod Promise
+pub mod Spelling
+pub mod Known
+pub mod Table
+pub mod Write
+pub mod Back
+pub mod Chain
