@@ -69,8 +69,9 @@ inputs-pinned = (refl, refl, refl, refl, refl, refl, refl, refl, refl, refl, ref
 -- 3. Latch lines. The limit is 5.
 
 pub latches-pinned :
-    -- `2 3 2`, which is unset, `2 3 1`, `2 3 0`, and `2 3`, whose reset is 0
+    -- `2 3 2` and `4 3 4`, which are unset, `2 3 1`, `2 3 0`, and `2 3`, whose reset is 0
     (statedAt (120 ∷ 50 ∷ 32 ∷ 51 ∷ 32 ∷ 50 ∷ 10 ∷ []) 5 1 ≡ got (statedLatch 2 3 2) 7)
+    × (statedAt (120 ∷ 52 ∷ 32 ∷ 51 ∷ 32 ∷ 52 ∷ 10 ∷ []) 5 1 ≡ got (statedLatch 4 3 4) 7)
     × (statedAt (120 ∷ 50 ∷ 32 ∷ 51 ∷ 32 ∷ 49 ∷ 10 ∷ []) 5 1 ≡ got (statedLatch 2 3 1) 7)
     × (statedAt (120 ∷ 50 ∷ 32 ∷ 51 ∷ 32 ∷ 48 ∷ 10 ∷ []) 5 1 ≡ got (statedLatch 2 3 0) 7)
     × (statedAt (120 ∷ 50 ∷ 32 ∷ 51 ∷ 10 ∷ []) 5 1 ≡ got (statedLatch 2 3 0) 5)
@@ -125,6 +126,7 @@ latches-pinned = (
   refl,
   refl,
   refl,
+  refl,
 )
 
 -- 4. Gate lines. The limit is 7.
@@ -133,6 +135,7 @@ pub gates-pinned :
     -- `6 4 2`; inputs over the output, odd, constant
     (gateAt (120 ∷ 54 ∷ 32 ∷ 52 ∷ 32 ∷ 50 ∷ 10 ∷ []) 7 1 ≡ got (gateWith 6 4 2) 7)
     × (gateAt (120 ∷ 50 ∷ 32 ∷ 55 ∷ 32 ∷ 48 ∷ 10 ∷ []) 7 1 ≡ got (gateWith 2 7 0) 7)
+    × (gateAt (120 ∷ 50 ∷ 32 ∷ 48 ∷ 32 ∷ 55 ∷ 10 ∷ []) 7 1 ≡ got (gateWith 2 0 7) 7)
     -- `6 4` and `6`: 18 at the newline; `6 4 2 `: 18 at the space; a carriage return; the end
     × (gateAt (120 ∷ 54 ∷ 32 ∷ 52 ∷ 10 ∷ []) 7 1 ≡ no Missing 4)
     × (gateAt (120 ∷ 54 ∷ 10 ∷ []) 7 1 ≡ no Missing 2)
@@ -157,7 +160,7 @@ pub gates-pinned :
     -- the second is over the limit
     × (gatesAt (120 ∷ 54 ∷ 32 ∷ 52 ∷ 32 ∷ 50 ∷ 10 ∷ 56 ∷ 32 ∷ 50 ∷ 32 ∷ 51 ∷ 10 ∷ []) 7 2 1 ≡ no (Number OverLimit) 7)
 unfolding digitsOf digitsAt uintAt litAt headerFieldAt isByte byteAt numberAt countAt definedAt inputPairAt gateAt gatesAt
-gates-pinned = (refl, refl, refl, refl, refl, refl, refl, refl, refl, refl, refl, refl, refl, refl, refl, refl, refl, refl, refl, refl)
+gates-pinned = (refl, refl, refl, refl, refl, refl, refl, refl, refl, refl, refl, refl, refl, refl, refl, refl, refl, refl, refl, refl, refl)
 
 -- 5. The words of the contracts.
 
