@@ -413,3 +413,9 @@ outcomes-pinned = (
   refl,
   refl,
 )
+
+-- the flags of a text's circuit, each by itself
+pub flags-pinned : (t : Text)
+    → (circuitIn t true false false .trim ≡ true) × (circuitIn t true false false .hash ≡ false) × (circuitIn t true false false .fold ≡ false)
+    × (circuitIn t false true false .hash ≡ true) × (circuitIn t false false true .fold ≡ true) × (circuitIn t false false true .trim ≡ false)
+flags-pinned t = (refl, refl, refl, refl, refl, refl)

@@ -98,8 +98,11 @@ pub texts-pinned :
     × (textOf (bare (0 ∷ 0 ∷ 1 ∷ 0 ∷ 0 ∷ []) (0 ∷ []) []) ≡ noneThen (32 ∷ 48 ∷ 32 ∷ 49 ∷ 10 ∷ 48 ∷ 10 ∷ []))
     × (textOf (bare none [] (0 ∷ [])) ≡ noneThen (32 ∷ 48 ∷ 32 ∷ 48 ∷ 32 ∷ 49 ∷ 10 ∷ 48 ∷ 10 ∷ []))
     × (textOf (bare (0 ∷ 0 ∷ 0 ∷ 1 ∷ 0 ∷ []) (1 ∷ []) []) ≡ noneThen (32 ∷ 48 ∷ 32 ∷ 48 ∷ 32 ∷ 48 ∷ 32 ∷ 49 ∷ 10 ∷ 49 ∷ 10 ∷ []))
+    -- an input and a latch behind it, whose state is 4, in a circuit without justice sets
+    × (textOf (file 1 (2 ∷ []) (0 ∷ []) [] none [] [])
+    ≡ (97 ∷ 97 ∷ 103 ∷ 32 ∷ 50 ∷ 32 ∷ 49 ∷ 32 ∷ 49 ∷ 32 ∷ 48 ∷ 32 ∷ 48 ∷ 10 ∷ 50 ∷ 10 ∷ 52 ∷ 32 ∷ 50 ∷ 10 ∷ []))
 unfolding digitsOf lineBytes countBytes resetBytes latchBytes afterTag rootsBytes firstCode inputLines statedBytes gateLine partsOf
-texts-pinned = (refl, refl, refl, refl, refl, refl, refl, refl, refl, refl, refl, refl)
+texts-pinned = (refl, refl, refl, refl, refl, refl, refl, refl, refl, refl, refl, refl, refl)
 
 -- 3. Answers, and the lent bytes afterwards.
 
