@@ -1,4 +1,6 @@
 // Renumbering of AIGER circuits in lent lists: literals get new codes so that a gate's code is larger than those of its inputs.
+#![tactic(auto)]
+
 mod fit;
 mod flat;
 mod order;

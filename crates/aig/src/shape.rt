@@ -1,5 +1,5 @@
 // The sizes that place each table in the scratch words, and what is asked of the walk.
-#[derive(Drop)]
+#[derive(Clone, Copy)]
 pub struct Shape {
     // the words of the map: V + 1
     pub vars: usize,

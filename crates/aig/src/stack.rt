@@ -9,7 +9,7 @@ use lent::words::wide;
 use lit::Lit;
 
 // A literal on the stack, by the input that is under way.
-#[derive(Drop)]
+#[derive(Clone, Copy)]
 pub enum Frame {
     First(Lit),
     Second(Lit),

@@ -6,7 +6,7 @@ ghost use Rattle.aig.specs.Table.{gate_at};
 use lent::words::{place_of, wide};
 use lit::Lit;
 
-#[derive(Drop)]
+#[derive(Clone, Copy)]
 pub enum GateNumber {
     Number(usize),
     Nothing,

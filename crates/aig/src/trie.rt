@@ -19,7 +19,7 @@ use lit::Lit;
 const BITS: usize = 22;
 
 // What a search comes to: the code that stands for a gate, or the free place where the gate is to be linked.
-#[derive(Drop)]
+#[derive(Clone, Copy)]
 pub enum Search {
     Found(Lit),
     Free(usize),

@@ -17,14 +17,14 @@ use lent::map;
 use lit::Lit;
 
 // The numbers that a step hands on: entries on the stack, gates made.
-#[derive(Drop)]
+#[derive(Clone, Copy)]
 pub struct Walk {
     pub depth: usize,
     pub made: usize,
 }
 
 // Where the walk stands.
-#[derive(Drop)]
+#[derive(Clone, Copy)]
 pub enum State {
     // a literal is about to be walked
     Transfer(Walk, Lit),

@@ -1,4 +1,6 @@
 // Renumbering where the gates come as records, each an output and two inputs: a thin entry on top of the one for flat gates.
+#![tactic(auto)]
+
 mod records;
 mod verdict;
 
@@ -14,7 +16,7 @@ use lit::Lit;
 use verdict::{Checked, Rooms};
 
 // A gate by its output and its two inputs.
-#[derive(Drop)]
+#[derive(Clone, Copy)]
 pub struct GateRecord {
     pub output: Lit,
     pub first: Lit,

@@ -9,7 +9,7 @@ use checks::Found;
 use lit::Var;
 
 // A gate's three codes.
-#[derive(Drop)]
+#[derive(Clone, Copy)]
 pub struct Codes {
     pub output: u32,
     pub first: u32,

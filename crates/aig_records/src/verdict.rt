@@ -11,14 +11,14 @@ use lent::words::wide;
 use lit::{Lit, Var};
 
 // What the checks say, and how many records are laid flat: none after a refusal.
-#[derive(Drop)]
+#[derive(Clone, Copy)]
 pub struct Checked {
     pub laid: usize,
     pub check: Check,
 }
 
 // The lengths of the lent lists that are written.
-#[derive(Drop)]
+#[derive(Clone, Copy)]
 pub struct Rooms {
     pub map: usize,
     pub next_images: usize,

@@ -6,7 +6,7 @@ use bytes::scan::find;
 use token::Token;
 
 // A number, and the place after it and a space.
-#[derive(Drop)]
+#[derive(Clone, Copy)]
 pub struct Field {
     pub value: u64,
     pub next: usize,

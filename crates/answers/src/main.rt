@@ -1,5 +1,7 @@
 // Replays questions whose answers the original gave: reads them from standard input, a line each, and answers each in the same words. The
 // files `stdin` and `stdout` beside `src` are the questions and the original's answers; docs/RECORDED.md says how they were made.
+#![tactic(auto)]
+
 mod fields;
 mod files;
 mod say;

@@ -1,4 +1,6 @@
 // Reading a text AIGER file into lent lists, and writing one into lent bytes.
+#![tactic(auto)]
+
 mod put;
 
 ghost use Rattle.std.specs.Prelude.{◌≡◌, ◌+◌, ◌*◌, ◌≤◌, length};
@@ -20,7 +22,7 @@ use ordered::given::{Checked, Shape};
 
 // The answer, and of a text that is taken M, the numbers of inputs, latches and gates, the five root counts in walk order, and the number of justice
 // sets; all 0 for a refusal.
-#[derive(Drop)]
+#[derive(Clone, Copy)]
 pub struct TextRead {
     pub answer: FileAnswer,
     pub top: u32,

@@ -1,6 +1,8 @@
 // What the text form of an AIGER file has beside what both forms share: lines that define a literal, of inputs, latches and gates. Each section reads
 // forward from a place and answers the place after it, or why it stops and where; what it reads goes into lent lists, and a section that is refused
 // leaves every cell of its lists 0.
+#![tactic(auto)]
+
 ghost use Rattle.std.specs.Prelude.{◌≡◌};
 ghost use Rattle.lines.specs.Promise.{reading};
 ghost use Rattle.ascii_lines.specs.Lines.{defined_at, input_at, inputs_at, stated_at, latches_at, input_pair_at, gate_at, gates_at};
@@ -11,7 +13,7 @@ use lines::{Ended, Fault, LatchRead, Reading};
 use token::Token;
 
 // A latch's state, next state and reset and the place after its line, or why it is refused and where.
-#[derive(Drop)]
+#[derive(Clone, Copy)]
 pub enum StatedRead {
     Stated {
         state: u32,
@@ -26,7 +28,7 @@ pub enum StatedRead {
 }
 
 // A gate's output and inputs and the place after its line, or why it is refused and where.
-#[derive(Drop)]
+#[derive(Clone, Copy)]
 pub enum GateRead {
     Defined {
         output: u32,

@@ -1,4 +1,6 @@
 // What stands in the lent lists when the walks begin: the table of definitions, the map at the start, and zeros.
+#![tactic(auto)]
+
 ghost use Rattle.std.specs.Prelude.{◌≡◌};
 ghost use Rattle.beginning.specs.Beginning.{ready_of, prepared};
 

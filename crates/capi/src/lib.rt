@@ -1,4 +1,6 @@
 // What C calls. `include/imdagluz.h` declares it, with every promise in a comment. A slice is a pointer and a length on C's side.
+#![tactic(auto)]
+
 pub mod order;
 mod renumber;
 pub mod texts;

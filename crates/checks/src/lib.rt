@@ -1,4 +1,6 @@
 // What is asked before anything is written: checks 1 to 4, in their order, and then 22.
+#![tactic(auto)]
+
 ghost use Rattle.std.specs.Prelude.{◌≡◌, ◌+◌, ◌*◌};
 ghost use Rattle.circuit.specs.Outcome.{total};
 ghost use Rattle.circuit.specs.Circuit.{latch_codes, codes, first_over, first_stray};
@@ -10,20 +12,20 @@ use lent::words::{counted, is_reset, wide};
 use lit::{Lit, Var};
 
 // The first literal of a list that a check does not let by.
-#[derive(Drop)]
+#[derive(Clone, Copy)]
 pub enum Found {
     Literal(Lit),
     Nothing,
 }
 
-#[derive(Drop)]
+#[derive(Clone, Copy)]
 pub enum Check {
     Passed,
     Failed(Refusal),
 }
 
 // How long each list is: of the gates, how many there are and how many words are left over.
-#[derive(Drop)]
+#[derive(Clone, Copy)]
 pub struct Lengths {
     pub inputs: usize,
     pub states: usize,

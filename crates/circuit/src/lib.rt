@@ -1,12 +1,14 @@
 // What renumbering answers, as types that callers hold. Their meaning is in specs/ and the theorems about it in proofs/; the code that gives these
 // answers is a crate above this one.
+#![tactic(auto)]
+
 use lit::{Lit, Var};
 
 // The largest V, I, L, G and R that are taken: `limit` of specs/Outcome.antt.
 pub const LIMIT: usize = 1048575;
 
 // Why a circuit is refused; the literal is the one at fault.
-#[derive(Drop)]
+#[derive(Clone, Copy)]
 pub enum Refusal {
     TooBig,
     Misshapen,
@@ -20,27 +22,27 @@ pub enum Refusal {
 }
 
 // What a success answers: the number of gates made, and the new largest variable.
-#[derive(Drop)]
+#[derive(Clone, Copy)]
 pub struct Summary {
     pub made: u32,
     pub top: Var,
 }
 
-#[derive(Drop)]
+#[derive(Clone, Copy)]
 pub enum Answer {
     Renumbered(Summary),
     Refused(Refusal),
 }
 
 // What a lookup in the map answers.
-#[derive(Drop)]
+#[derive(Clone, Copy)]
 pub enum Image {
     Absent,
     Code(Lit),
 }
 
 // A circuit but for its lists: the largest variable, the numbers of outputs, bad states, constraints, fairness and justice literals, the flags.
-#[derive(Drop)]
+#[derive(Clone, Copy)]
 pub struct CircuitRecord {
     pub top: Var,
     pub counts: [u32; 5],

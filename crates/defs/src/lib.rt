@@ -1,5 +1,7 @@
 // Checks 5 and 6 of document 01: what defines each variable. They fill a table of words in lent scratch, 0 for nothing, 1 for the constant, an input
 // or a latch, k + 2 for gate k; a variable past the table is passed over.
+#![tactic(auto)]
+
 ghost use Rattle.std.specs.Prelude.{◌≡◌, ◌^◌, ◌<◌, set};
 ghost use Rattle.circuit.specs.Outcome.{gates_of};
 ghost use Rattle.defs.specs.Define.{tabled, mark_of, define_at, define_sources, define_gates, judged, define_all};

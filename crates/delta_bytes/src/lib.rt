@@ -1,4 +1,6 @@
 // One delta of a binary AIGER file as nine bytes: eight for its value, and one for the bytes that it took.
+#![tactic(auto)]
+
 ghost use Rattle.std.specs.Prelude.{◌≡◌, ◌≤◌, length};
 ghost use Rattle.delta_bytes.specs.Delta.{nine_bytes, delta_number, delta_bytes};
 

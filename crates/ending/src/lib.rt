@@ -1,4 +1,6 @@
 // How renumbering ends: with the images and the answer of a success, or with cleared lists. Each function takes whatever it is lent.
+#![tactic(auto)]
+
 ghost use Rattle.std.specs.Prelude.{◌≡◌, ◌%◌, ◌^◌};
 ghost use Rattle.circuit.specs.Outcome.{left};
 ghost use Rattle.ending.specs.Ending.{made_with, Finished, Cleared, ended};
@@ -9,14 +11,14 @@ use lent::words::{fill_front, wide};
 use lit::Var;
 
 // How walks end: with so many gates made, or refused.
-#[derive(Drop)]
+#[derive(Clone, Copy)]
 pub enum Walked {
     Reached(usize),
     Stopped(Refusal),
 }
 
 // The words of each lent list that are named.
-#[derive(Drop)]
+#[derive(Clone, Copy)]
 struct Fronts {
     map: usize,
     next_images: usize,

@@ -1,6 +1,8 @@
 // Runs the documents' examples and prints a line for each. The literals' stand in `lits.rt`; those of tokens, circuits, files, texts and writing in the file `stdin`
 // beside `src`, a line each; the token reader's and the gate records' in `readings.rt` and `records.rt`. What is printed is held to the file `stdout`,
 // which was written from the documents and not by this program.
+#![tactic(auto)]
+
 mod circuits;
 mod escapes;
 mod fields;

@@ -1,4 +1,6 @@
 // An AIGER file read and written for C, in either form: what a reader answers as a number and eleven words, a writer as a number and two.
+#![tactic(auto)]
+
 mod answered;
 mod written;
 

@@ -1,4 +1,6 @@
 // The two images that make a gate, and the codes that stand for it without one.
+#![tactic(auto)]
+
 ghost use Rattle.std.specs.Prelude.{◌≡◌};
 ghost use Rattle.circuit.specs.Walk as circuit-walk;
 ghost use Rattle.fold.specs.Fold.{larger_first, already_of};
@@ -6,14 +8,14 @@ ghost use Rattle.fold.specs.Fold.{larger_first, already_of};
 use lit::Lit;
 
 // The codes of a gate's inputs.
-#[derive(Drop)]
+#[derive(Clone, Copy)]
 pub struct Pair {
     pub larger: Lit,
     pub smaller: Lit,
 }
 
 // What stands for a gate already.
-#[derive(Drop)]
+#[derive(Clone, Copy)]
 pub enum Already {
     Code(Lit),
     New,

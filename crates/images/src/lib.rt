@@ -1,4 +1,6 @@
 // The map at the start, the images of whole lists, and resets carried over. Each public function takes whatever it is lent.
+#![tactic(auto)]
+
 ghost use Rattle.std.specs.Prelude.{◌≡◌, ◌+◌, ◌*◌, ◌^◌, ◌<◌, length};
 ghost use Rattle.circuit.specs.Circuit.{store_from};
 ghost use Rattle.circuit.specs.Ordered.{images_in, carried, carried_from};

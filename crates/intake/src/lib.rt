@@ -1,4 +1,6 @@
 // Intake as one call: the bytes of a binary AIGER file in, the bytes of the ordered file out.
+#![tactic(auto)]
+
 ghost use Rattle.std.specs.Prelude.{◌≡◌, ◌*◌, ◌≤◌, length, take};
 ghost use Rattle.circuit.specs.Outcome.{limit, total, left, outcome};
 ghost use Rattle.binary.specs.Way.{top_of};
@@ -16,7 +18,7 @@ use ordered::given::Shape;
 
 // How the call ends: the bytes that the file took and those that were written; or the file's own refusal, with its place; or renumbering's; or that of
 // writing and, where the lent bytes are too few, how many are needed.
-#[derive(Drop)]
+#[derive(Clone, Copy)]
 pub enum OrderAnswer {
     Ordered {
         used: usize,
@@ -34,7 +36,7 @@ pub enum OrderAnswer {
 }
 
 // The answer, the numbers of the file that was read (all 0 where it is refused), and the number of gates made (0 where none was).
-#[derive(Drop)]
+#[derive(Clone, Copy)]
 pub struct Ordering {
     pub answer: OrderAnswer,
     pub read: FileRead,

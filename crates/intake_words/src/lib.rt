@@ -1,4 +1,6 @@
 // Intake as one call with numbers for its answer: a number and fourteen words, as C has them.
+#![tactic(auto)]
+
 ghost use Rattle.std.specs.Prelude.{◌≡◌, [], ◌∷◌, ◌≤◌, ltb, length};
 ghost use Rattle.std.proofs.lemmas.List.Edits.{sets};
 ghost use Rattle.circuit.specs.Outcome.{onto};

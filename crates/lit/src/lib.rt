@@ -1,18 +1,20 @@
 // A variable's index and a literal's code are two types. Their fields are private, so a number becomes one or the other by name, and halving
 // and doubling are the only ways between them: the index 3 and the code 6 name the same variable, and neither is taken for the other.
+#![tactic(auto)]
+
 ghost use Rattle.std.specs.Prelude.{◌≡◌};
 ghost use Rattle.lit.specs.Code.{variable, literal, halved, doubled, flipped_by};
 
 // A variable by its index; 0 is the constant.
-#[derive(Drop)]
+#[derive(Clone, Copy)]
 pub struct Var(u32);
 
 // A literal by its code: its variable's index doubled, and one more if it is negated.
-#[derive(Drop)]
+#[derive(Clone, Copy)]
 pub struct Lit(u32);
 
 // What doubling an index answers: the literal, or that its code would not fit.
-#[derive(Drop)]
+#[derive(Clone, Copy)]
 pub enum Doubled {
     Code(Lit),
     TooBig,

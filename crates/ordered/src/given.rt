@@ -13,14 +13,14 @@ use lent::words::{counted, is_reset, wide};
 use lit::Lit;
 
 // An ordered circuit but for its lists: the number of inputs, and how many outputs, bad states, constraints, fairness and justice literals it has.
-#[derive(Drop)]
+#[derive(Clone, Copy)]
 pub struct Shape {
     pub inputs: u32,
     pub counts: [u32; 5],
 }
 
 // Why an ordered circuit is refused; the literal is the one at fault. Short is a caller's answer, for a list of its own that is too short.
-#[derive(Drop)]
+#[derive(Clone, Copy)]
 pub enum Fault {
     TooBig,
     Misshapen,
@@ -30,7 +30,7 @@ pub enum Fault {
     Short,
 }
 
-#[derive(Drop)]
+#[derive(Clone, Copy)]
 pub enum Checked {
     Fits,
     Faulty(Fault),

@@ -1,4 +1,6 @@
 // Places in lent bytes: where one stands after some more of them.
+#![tactic(auto)]
+
 ghost use Rattle.std.specs.Prelude.{◌≡◌};
 ghost use Rattle.place.specs.Place.{further};
 

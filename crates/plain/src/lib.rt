@@ -1,4 +1,6 @@
 // The token reader and the gate records behind plain parameters: each function here makes the reader, or lends the records, and calls the library. Whoever
 // calls these needs no walk by hand.
+#![tactic(auto)]
+
 pub mod reading;
 pub mod records;

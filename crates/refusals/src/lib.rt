@@ -1,5 +1,7 @@
 // What callers are told of a refusal: document 01's number, and the literal at fault. Their definitions are circuit's, in its specs/Refusals.antt; the
 // code stands here, so that a change of circuit's definitions is checked without it.
+#![tactic(auto)]
+
 ghost use Rattle.std.specs.Prelude.{◌≡◌};
 ghost use Rattle.circuit.specs.Refusals.{refusal_number, refusal_literal};
 

@@ -1,6 +1,8 @@
 // Reads a sheet from standard input and writes the report on it to standard output. Of a sheet that is too long one byte more than the longest is
 // read, which is enough to know. Where a read fails nothing is written: a report is never empty, so that whoever runs the program sees that there
 // is none. Where a write fails the report stops there, and its first line says how many lines were to come.
+#![tactic(auto)]
+
 ghost use Rattle.std.specs.Prelude.{◌≡◌, ◌≤◌, length, take};
 ghost use Rattle.io.specs.Counts.{IsPrefixLen};
 ghost use Rattle.sheet.specs.Report.{report_of};
@@ -9,7 +11,7 @@ ghost use Rattle.report.specs.Input.{Within};
 use libc::{STDIN_FILENO, STDOUT_FILENO};
 
 // What reading came to: as many bytes, at the front of the room, or a read that failed.
-#[derive(Drop)]
+#[derive(Clone, Copy)]
 enum Input {
     Bytes(usize),
     Unread,

@@ -1,1 +1,2 @@
 // Runs of a circuit, and what a solver is asked of them: definitions and theorems, and no code.
+#![tactic(auto)]

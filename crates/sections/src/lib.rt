@@ -1,5 +1,7 @@
 // What both forms of an AIGER file share, as it is written: lines with a number, latch lines, the header, the root section. Each writer puts its bytes
 // into lent bytes from a place on. What does not fit is not written, and the place after it is answered all the same.
+#![tactic(auto)]
+
 ghost use Rattle.std.specs.Prelude.{◌≡◌, ◌+◌, ◌<◌, min, length};
 ghost use Rattle.place.specs.Place.{further};
 ghost use Rattle.text.specs.Put.{put_all};

@@ -1,4 +1,6 @@
 // Document 01's report on slices: what renumbering answers to the circuit on a sheet, as text.
+#![tactic(auto)]
+
 mod header;
 mod lists;
 

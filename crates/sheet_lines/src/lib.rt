@@ -1,4 +1,6 @@
 // The report's text, put into lent bytes: the lines, and what is printed of an answer.
+#![tactic(auto)]
+
 ghost use Rattle.std.specs.Prelude.{◌≡◌, [], ◌∷◌, ◌++◌, ◌+◌, ◌^◌, ◌<◌, length};
 ghost use Rattle.token.specs.Format.{digits_of};
 ghost use Rattle.circuit.specs.Ordered.{gates_from};

@@ -1,4 +1,6 @@
 // Reading a sheet, document 01's ten numbers and the codes of the lists that they announce, into lent numbers.
+#![tactic(auto)]
+
 mod header;
 
 ghost use Rattle.std.specs.Prelude.{◌≡◌, length};
@@ -10,14 +12,14 @@ ghost use Rattle.sheet_read.specs.Promise.{offender, Fills, Reads, ReadsCodes};
 use token::{Reason, Token};
 
 // Where numbers that were read one after the other end: after the last, or at one that is refused.
-#[derive(Drop)]
+#[derive(Clone, Copy)]
 pub enum Ended {
     After(usize),
     Broken { why: Reason, place: usize },
 }
 
 // Whether a sheet is taken; where not, the refusal's number and what is printed beside it.
-#[derive(Drop)]
+#[derive(Clone, Copy)]
 pub enum Reading {
     Whole,
     Faulty { number: u32, beside: u64 },
@@ -49,7 +51,7 @@ pub fn numbers(s: &[u8], at: usize, list: &mut [u64]) -> Ended
 }
 
 // What a search for a number over a bound finds.
-#[derive(Drop)]
+#[derive(Clone, Copy)]
 pub enum Offender {
     Nothing,
     Over(u64),

@@ -1,5 +1,7 @@
 // Text put into lent bytes from a place on. What does not fit is not written, and the place after it is answered all the same: the length of a
 // text is what the same writer answers on a part with no room.
+#![tactic(auto)]
+
 ghost use Rattle.std.specs.Prelude.{◌≡◌, ◌+◌, ◌<◌, ◌≤◌, length, set};
 ghost use Rattle.place.specs.Place.{further};
 ghost use Rattle.token.specs.Format.{digits_of, shortest};

@@ -1,6 +1,8 @@
 // AIGER's number tokens, on lent bytes and a place in them: decimal numbers, numbers in groups of seven bits, deltas, and a gate's pair of
 // deltas. A place past the end reads as the end. A refusal consumes nothing and names the place given; in a pair, the first byte of the delta
 // that caused it.
+#![tactic(auto)]
+
 ghost use Rattle.std.specs.Prelude.{◌≡◌, ◌-◌, ◌/◌, ◌≤◌, ltb, length, take, drop};
 ghost use Rattle.token.specs.Format.{decimal_value};
 ghost use Rattle.token.specs.Answer.{reason_number, digits_at, fitting, uint_at, binary_at, less, delta_at, within, assigned, header_field_at, lit_at, symbol_index_at, pair_of, pair_at};
@@ -9,7 +11,7 @@ ghost use Rattle.token.specs.Answer.{reason_number, digits_at, fitting, uint_at,
 const LARGEST: u64 = 18446744073709551615;
 
 // Why a number is refused.
-#[derive(Drop)]
+#[derive(Clone, Copy)]
 pub enum Reason {
     NoDigit,
     LeadingZero,
@@ -24,14 +26,14 @@ pub enum Reason {
 }
 
 // A number and the bytes it took, or why there is none and where.
-#[derive(Drop)]
+#[derive(Clone, Copy)]
 pub enum Token {
     Value { value: u64, used: usize },
     Refused { why: Reason, place: usize },
 }
 
 // A gate's two inputs and the bytes they took, or why there are none and where.
-#[derive(Drop)]
+#[derive(Clone, Copy)]
 pub enum PairToken {
     Inputs {
         first: u64,

@@ -1,12 +1,14 @@
 // The token reader: lent bytes and a place in them. Each function takes it apart and calls a number token of the crate `token`, or makes it anew
 // at the place after one. The reader is passed by value: reading does not move it, `moved` does.
+#![tactic(auto)]
+
 ghost use Rattle.std.specs.Prelude.{◌≡◌};
 ghost use Rattle.token.specs.Answer.{uint_at, binary_at, delta_at, header_field_at, lit_at, symbol_index_at, pair_at};
 ghost use Rattle.token_reader.specs.Reader.{starting, place_after, place_after_pair, moved_past, moved_past_pair};
 
 use token::{PairToken, Token};
 
-#[derive(Drop)]
+#[derive(Clone, Copy)]
 pub struct TokenReader<'a> {
     pub bytes: &'a [u8],
     pub at: usize,
