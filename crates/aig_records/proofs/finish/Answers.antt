@@ -14,7 +14,7 @@ use Rattle.aig_records.proofs.finish.Goals as goal
 
 pub overflow_mul-words : goal.overflow_mul-words
 overflow_mul-words c =
-    record { fits = omega (arith, c.requires, (omega arith)) }
+    record { fits = omega (arith, c.requires) }
 
 pub slice_bounds-renumber-end-in-Passed : goal.slice_bounds-renumber-end-in-Passed
 slice_bounds-renumber-end-in-Passed c =

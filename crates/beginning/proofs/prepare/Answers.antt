@@ -30,7 +30,7 @@ slice_bounds-begin-end-2 c =
 
 pub overflow_mul-g : goal.overflow_mul-g
 overflow_mul-g c =
-    record { fits = omega (arith, (omega arith)) }
+    record { fits = omega arith }
 
 pub overflow_mul-n : goal.overflow_mul-n
 overflow_mul-n c =
@@ -42,7 +42,7 @@ overflow_mul-g-2 c =
 
 pub overflow_add-n-2 : goal.overflow_add-n-2
 overflow_add-n-2 c =
-    record { fits = omega (arith, c.wide-n.ensures, c.index.type-inv, (omega arith)) }
+    record { fits = omega (arith, c.wide-n.ensures, c.index.type-inv) }
 
 pub slice_bounds-define_all-end : goal.slice_bounds-define_all-end
 slice_bounds-define_all-end c =
@@ -52,19 +52,6 @@ pub slice_bounds-define_all-end-2 : goal.slice_bounds-define_all-end-2
 slice_bounds-define_all-end-2 c =
     sym (length-take-le (c.wide-n.result + 1) c.fill_front-2.new.0
     (omega (arith, c.if-scratch-n.false, c.fill_front-2.auto.0)))
-
-pub shape_of-map : goal.shape_of-map
-shape_of-map c =
-    whole (c.wide-n.result + 1) c.args.map.now c.begin.new.0 c.begin.auto.0
-
-pub shape_of-gates_out : goal.shape_of-gates_out
-shape_of-gates_out c =
-    c.fill_front.auto.0
-
-pub shape_of-scratch : goal.shape_of-scratch
-shape_of-scratch c =
-    whole (c.wide-n.result + 1) c.fill_front-2.new.0 c.define_all.new.0 c.define_all.auto.0
-    ∙ c.fill_front-2.auto.0
 
 pub returns : goal.returns
 returns c =

@@ -14,22 +14,18 @@ loop-k-init c = (omega arith, refl, refl)
 
 pub overflow_mul-k : goal.overflow_mul-k
 overflow_mul-k c =
-    record { fits = omega (arith, c.loop-k-test.true, (omega arith)) }
+    record { fits = omega (arith, c.loop-k-test.true) }
 
 pub offset_bounds-gates-k : goal.offset_bounds-gates-k
 offset_bounds-gates-k c =
-    record { fits = omega (arith, c.loop-k-test.true, (omega arith)) }
+    record { fits = omega (arith, c.loop-k-test.true) }
 
 pub bounds-gates-k : goal.bounds-gates-k
 bounds-gates-k c = omega (arith, c.loop-k-test.true)
 
 pub mark_of-requires : goal.mark_of-requires
 mark_of-requires c =
-    omega (arith, c.loop-k-test.true, (omega arith))
-
-pub shape_of-table-in-Literal : goal.shape_of-table-in-Literal
-shape_of-table-in-Literal c =
-    c.define-again.auto.0 ∙ c.loop-k.invariant.1
+    omega (arith, c.loop-k-test.true)
 
 pub returns-in-Literal : goal.returns-in-Literal
 returns-in-Literal c =
@@ -39,7 +35,7 @@ returns-in-Literal c =
 
 pub overflow_add-k : goal.overflow_add-k
 overflow_add-k c =
-    record { fits = omega (arith, c.loop-k-test.true, (omega arith)) }
+    record { fits = omega (arith, c.loop-k-test.true) }
 
 pub loop-k-smaller : goal.loop-k-smaller
 loop-k-smaller c =

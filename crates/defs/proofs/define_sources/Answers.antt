@@ -13,14 +13,10 @@ loop-i-init c = (omega arith, refl, refl)
 
 pub offset_bounds-literals-i : goal.offset_bounds-literals-i
 offset_bounds-literals-i c =
-    record { fits = omega (arith, c.loop-i-test.true, (omega arith)) }
+    record { fits = omega (arith, c.loop-i-test.true) }
 
 pub bounds-literals-i : goal.bounds-literals-i
 bounds-literals-i c = c.loop-i-test.true
-
-pub shape_of-table-in-Literal : goal.shape_of-table-in-Literal
-shape_of-table-in-Literal c =
-    c.define-again.auto.0 ∙ c.loop-i.invariant.1
 
 pub returns-in-Literal : goal.returns-in-Literal
 returns-in-Literal c =
@@ -30,7 +26,7 @@ returns-in-Literal c =
 
 pub overflow_add-i : goal.overflow_add-i
 overflow_add-i c =
-    record { fits = omega (arith, c.loop-i-test.true, (omega arith)) }
+    record { fits = omega (arith, c.loop-i-test.true) }
 
 pub loop-i-smaller : goal.loop-i-smaller
 loop-i-smaller c =

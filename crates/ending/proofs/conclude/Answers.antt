@@ -8,7 +8,7 @@ use Rattle.ending.proofs.conclude.Goals as goal
 
 pub overflow_add-inputs : goal.overflow_add-inputs
 overflow_add-inputs c =
-    record { fits = omega (arith, (omega arith), (omega arith)) }
+    record { fits = omega arith }
 
 pub returns-in-Reached : goal.returns-in-Reached
 returns-in-Reached c =

@@ -13,9 +13,6 @@ pub shape_of-root_images : goal.shape_of-root_images
 shape_of-root_images c =
     c.images-2.auto.1.1.0
 
-pub shape_of-scratch : goal.shape_of-scratch
-shape_of-scratch c = c.fill_front.auto.0
-
 pub returns : goal.returns
 returns c =
     record {

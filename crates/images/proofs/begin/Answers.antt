@@ -35,10 +35,6 @@ pub store_from-requires-2 : goal.store_from-requires-2
 store_from-requires-2 c =
     omega (arith, c.if-inputs-gt-LIMIT.false, c.if-states-gt-LIMIT.false)
 
-pub shape_of-map : goal.shape_of-map
-shape_of-map c =
-    c.store_from-2.auto.0 ∙ c.store_from.auto.0 ∙ c.insert.auto.0 ∙ c.fill.auto.0
-
 pub returns : goal.returns
 returns c =
     let a = c.args in

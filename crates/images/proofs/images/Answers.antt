@@ -24,21 +24,21 @@ returns-then-out-i c =
 
 pub offset_bounds-literals-i : goal.offset_bounds-literals-i
 offset_bounds-literals-i c =
-    record { fits = omega (arith, c.loop-i-test.true, (omega arith)) }
+    record { fits = omega (arith, c.loop-i-test.true) }
 
 pub bounds-literals-i : goal.bounds-literals-i
 bounds-literals-i c = c.loop-i-test.true
 
 pub offset_bounds-out-i : goal.offset_bounds-out-i
 offset_bounds-out-i c =
-    record { fits = omega (arith, c.loop-i-test.true, (omega arith)) }
+    record { fits = omega (arith, c.loop-i-test.true) }
 
 pub bounds-out-i : goal.bounds-out-i
 bounds-out-i c = c.if-out-i.false
 
 pub overflow_add-i : goal.overflow_add-i
 overflow_add-i c =
-    record { fits = omega (arith, c.loop-i-test.true, (omega arith)) }
+    record { fits = omega (arith, c.loop-i-test.true) }
 
 pub loop-i-smaller : goal.loop-i-smaller
 loop-i-smaller c =

@@ -12,7 +12,7 @@ pub returns : goal.returns
 unfolding ordered_text
 returns c =
     let a = c.args in
-    put_then (omega (arith, (omega arith))) (put_same c.put_ordered-after_line.ensures
+    put_then (omega arith) (put_same c.put_ordered-after_line.ensures
     (ordered_line_same _ _ _ _ (c.wide.ensures ∙ c.index.ensures) c.wide-2.ensures c.wide-3.ensures))
     (λ s. put_then s (put_same c.put_gates-after_gates.ensures
     (gate_lines_same a.gates.now c.wide-4.result (length a.nexts.now) c.wide-4.ensures))

@@ -11,7 +11,7 @@ loop-i-init c =
 
 pub offset_bounds-lits-i : goal.offset_bounds-lits-i
 offset_bounds-lits-i c =
-    record { fits = omega (arith, c.loop-i-test.true, (omega arith)) }
+    record { fits = omega (arith, c.loop-i-test.true) }
 
 pub bounds-lits-i : goal.bounds-lits-i
 bounds-lits-i c =

@@ -10,15 +10,9 @@ pub put_words-requires-in-Refused : goal.put_words-requires-in-Refused
 put_words-requires-in-Refused c =
     c.requires
 
-pub shape_of-answer-in-Renumbered : goal.shape_of-answer-in-Renumbered
-shape_of-answer-in-Renumbered c = c.put_words.auto.0
-
 pub returns-in-Renumbered : goal.returns-in-Renumbered
 returns-in-Renumbered c =
     said_made _ _ _ c.args.answer.now _ c.in-Renumbered.is c.index.ensures c.put_words.ensures
-
-pub shape_of-answer-in-Refused : goal.shape_of-answer-in-Refused
-shape_of-answer-in-Refused c = c.put_words-in-Refused.auto.0
 
 pub returns-in-Refused : goal.returns-in-Refused
 returns-in-Refused c =

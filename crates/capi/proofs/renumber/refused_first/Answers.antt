@@ -11,9 +11,6 @@ returns-then-answer-lt3 c =
 pub put_words-requires : goal.put_words-requires
 put_words-requires c = c.if-answer-lt3.false
 
-pub shape_of-answer-then-is_misgiven : goal.shape_of-answer-then-is_misgiven
-shape_of-answer-then-is_misgiven c = c.put_words.auto.0
-
 pub returns-then-is_misgiven : goal.returns-then-is_misgiven
 returns-then-is_misgiven c =
     let a = c.args in

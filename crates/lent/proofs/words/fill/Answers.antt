@@ -4,9 +4,6 @@ use lib.ListN.{length, replicate, length-replicate}
 use Rattle.circuit.proofs.Outcome.{onto_whole}
 use Rattle.lent.proofs.words.fill.Goals as goal
 
-pub shape_of-words : goal.shape_of-words
-shape_of-words c = c.fill_front.auto.0
-
 pub returns : goal.returns
 returns c =
     let a = c.args in

@@ -22,14 +22,14 @@ returns-then-words-i c =
 
 pub offset_bounds-words-i : goal.offset_bounds-words-i
 offset_bounds-words-i c =
-    record { fits = omega (arith, c.if-words-i.false, c.loop-i.invariant.2, (omega arith)) }
+    record { fits = omega (arith, c.if-words-i.false, c.loop-i.invariant.2) }
 
 pub bounds-words-i : goal.bounds-words-i
 bounds-words-i c = c.if-words-i.false
 
 pub overflow_add-i : goal.overflow_add-i
 overflow_add-i c =
-    record { fits = omega (arith, c.if-words-i.false, c.loop-i.invariant.2, (omega arith)) }
+    record { fits = omega (arith, c.if-words-i.false, c.loop-i.invariant.2) }
 
 pub loop-i-smaller : goal.loop-i-smaller
 loop-i-smaller c = omega (arith, c.loop-i-test.true)

@@ -28,9 +28,6 @@ pub second_of-requires : goal.second_of-requires
 second_of-requires c =
     (first_reads c.requires.2).number _ (sym c.gate_of-number.ensures ∙ c.in-Number.is)
 
-pub shape_of-scratch : goal.shape_of-scratch
-shape_of-scratch c = c.push.auto.0
-
 pub returns : goal.returns
 returns c =
     λ map out sources o k. as_transfer c.deeper.ensures c.second_of.ensures c.push.ensures

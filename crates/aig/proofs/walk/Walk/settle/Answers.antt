@@ -25,9 +25,6 @@ pub append-requires : goal.append-requires
 append-requires c =
     omega (arith, out_length _ _ _ _ c.requires.seek.made_in, c.requires.fits)
 
-pub shape_of-map-in-Found : goal.shape_of-map-in-Found
-shape_of-map-in-Found c = c.insert.auto.0
-
 pub shape_of-out-in-Found : goal.shape_of-out-in-Found
 shape_of-out-in-Found c = refl
 

@@ -51,9 +51,6 @@ pub first_of-requires : goal.first_of-requires
 first_of-requires c =
     (transfer_reads c.requires.1).number _ (sym c.gate_of-number.ensures ∙ c.in-Number.is)
 
-pub shape_of-scratch : goal.shape_of-scratch
-shape_of-scratch c = c.push.auto.0
-
 pub returns : goal.returns
 returns c =
     λ out sources o k. as_transfer c.deeper.ensures c.first_of.ensures c.push.ensures
