@@ -52,18 +52,18 @@ pub slice_bounds-words-end-in-Nothing : goal.slice_bounds-words-end-in-Nothing
 slice_bounds-words-end-in-Nothing c =
     let a = c.args in
     (words_front_lem a.header.now a.codes.now c.requires.0 c.requires.1 c.code_count-count.result
-    c.code_count-count.ensures c.narrow.new.1.0 _ c.narrow.ensures).room
+    c.code_count-count.ensures c.narrow.new.words _ c.narrow.ensures).room
 
 pub slice_bounds-report_words-end : goal.slice_bounds-report_words-end
 slice_bounds-report_words-end c =
-    let narrow_words = c.narrow.new.1.0 in
+    let narrow_words = c.narrow.new.words in
     let a = c.args in
     (words_front_lem a.header.now a.codes.now c.requires.0 c.requires.1 c.code_count-count.result
     c.code_count-count.ensures (narrow_words) _ c.narrow.ensures).count
 
 pub report_words-requires : goal.report_words-requires
 report_words-requires c =
-    let narrow_words = c.narrow.new.1.0 in
+    let narrow_words = c.narrow.new.words in
     let a = c.args in (
       c.requires.0,
       sym (words_front_lem a.header.now a.codes.now c.requires.0 c.requires.1 c.code_count-count.result
@@ -72,7 +72,7 @@ report_words-requires c =
 
 pub returns-in-Nothing : goal.returns-in-Nothing
 returns-in-Nothing c =
-    let narrow_words = c.narrow.new.1.0 in
+    let narrow_words = c.narrow.new.words in
     let a = c.args in
     put_same c.report_words.ensures (narrowed_text a.header.now a.codes.now c.requires.0 c.requires.1
     c.code_count-count.result c.code_count-count.ensures _
