@@ -11,11 +11,11 @@ record_of-requires c =
 
 pub slice_bounds-renumber-end : goal.slice_bounds-renumber-end
 slice_bounds-renumber-end c =
-    front _ _ c.args.input_codes_lem.now c.wide-i.ensures c.requires.1.inputs
+    front _ _ c.args.input_codes.now c.wide-i.ensures c.requires.1.inputs
 
 pub slice_bounds-renumber-end-2 : goal.slice_bounds-renumber-end-2
 slice_bounds-renumber-end-2 c =
-    front _ _ c.args.state_codes_lem.now c.wide-l.ensures c.requires.1.states
+    front _ _ c.args.state_codes.now c.wide-l.ensures c.requires.1.states
 
 pub slice_bounds-renumber-end-3 : goal.slice_bounds-renumber-end-3
 slice_bounds-renumber-end-3 c =
@@ -61,7 +61,7 @@ pub returns : goal.returns
 returns c =
     let a = c.args in
     numbers a.read a.flags (record { nexts = a.nexts.now; resets = a.resets.now; roots = a.roots.now })
-    (record { inputs = a.input_codes_lem.now; states = a.state_codes_lem.now; triples = a.triples.now }) (record {
+    (record { inputs = a.input_codes.now; states = a.state_codes.now; triples = a.triples.now }) (record {
       map = a.map.now;
       next_images = a.next_images.now;
       reset_images = a.reset_images.now;

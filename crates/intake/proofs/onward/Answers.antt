@@ -11,7 +11,7 @@ returns-then-flags-gt7 c =
     let l : Lists =
     record {
       file = record { nexts = a.nexts.now; resets = a.resets.now; gates = a.gates.now; sizes = a.sizes.now; roots = a.roots.now };
-      codes = record { inputs = a.input_codes_lem.now; states = a.state_codes_lem.now; triples = a.triples.now };
+      codes = record { inputs = a.input_codes.now; states = a.state_codes.now; triples = a.triples.now };
       images =
           record {
             map = a.map.now;
@@ -35,7 +35,7 @@ stored-end-requires c =
     let l : Lists =
     record {
       file = record { nexts = a.nexts.now; resets = a.resets.now; gates = a.gates.now; sizes = a.sizes.now; roots = a.roots.now };
-      codes = record { inputs = a.input_codes_lem.now; states = a.state_codes_lem.now; triples = a.triples.now };
+      codes = record { inputs = a.input_codes.now; states = a.state_codes.now; triples = a.triples.now };
       images =
           record {
             map = a.map.now;
@@ -102,7 +102,7 @@ returns-in-Written c =
     let l : Lists =
     record {
       file = record { nexts = a.nexts.now; resets = a.resets.now; gates = a.gates.now; sizes = a.sizes.now; roots = a.roots.now };
-      codes = record { inputs = a.input_codes_lem.now; states = a.state_codes_lem.now; triples = a.triples.now };
+      codes = record { inputs = a.input_codes.now; states = a.state_codes.now; triples = a.triples.now };
       images =
           record {
             map = a.map.now;
@@ -169,7 +169,7 @@ returns-in-Unwritten c =
     let l : Lists =
     record {
       file = record { nexts = a.nexts.now; resets = a.resets.now; gates = a.gates.now; sizes = a.sizes.now; roots = a.roots.now };
-      codes = record { inputs = a.input_codes_lem.now; states = a.state_codes_lem.now; triples = a.triples.now };
+      codes = record { inputs = a.input_codes.now; states = a.state_codes.now; triples = a.triples.now };
       images =
           record {
             map = a.map.now;
@@ -232,7 +232,7 @@ returns-in-Refused c =
     let l : Lists =
     record {
       file = record { nexts = a.nexts.now; resets = a.resets.now; gates = a.gates.now; sizes = a.sizes.now; roots = a.roots.now };
-      codes = record { inputs = a.input_codes_lem.now; states = a.state_codes_lem.now; triples = a.triples.now };
+      codes = record { inputs = a.input_codes.now; states = a.state_codes.now; triples = a.triples.now };
       images =
           record {
             map = a.map.now;

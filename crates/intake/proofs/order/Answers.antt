@@ -11,7 +11,7 @@ onward-requires c =
     let l : Lists =
     record {
       file = record { nexts = a.nexts.now; resets = a.resets.now; gates = a.gates.now; sizes = a.sizes.now; roots = a.roots.now };
-      codes = record { inputs = a.input_codes_lem.now; states = a.state_codes_lem.now; triples = a.triples.now };
+      codes = record { inputs = a.input_codes.now; states = a.state_codes.now; triples = a.triples.now };
       images =
           record {
             map = a.map.now;
@@ -100,7 +100,7 @@ returns-in-Taken c =
     let l : Lists =
     record {
       file = record { nexts = a.nexts.now; resets = a.resets.now; gates = a.gates.now; sizes = a.sizes.now; roots = a.roots.now };
-      codes = record { inputs = a.input_codes_lem.now; states = a.state_codes_lem.now; triples = a.triples.now };
+      codes = record { inputs = a.input_codes.now; states = a.state_codes.now; triples = a.triples.now };
       images =
           record {
             map = a.map.now;
@@ -151,7 +151,7 @@ returns-in-Refused c =
     let l : Lists =
     record {
       file = record { nexts = a.nexts.now; resets = a.resets.now; gates = a.gates.now; sizes = a.sizes.now; roots = a.roots.now };
-      codes = record { inputs = a.input_codes_lem.now; states = a.state_codes_lem.now; triples = a.triples.now };
+      codes = record { inputs = a.input_codes.now; states = a.state_codes.now; triples = a.triples.now };
       images =
           record {
             map = a.map.now;

@@ -18,7 +18,7 @@ pub numbered-requires : goal.numbered-requires
 numbered-requires c =
     let a = c.args in
     let c₁ : Taken = record { nexts = a.nexts.now; resets = a.resets.now; roots = a.roots.now } in
-    let codes : E.Lists = record { inputs = a.input_codes_lem.now; states = a.state_codes_lem.now; triples = a.triples.now } in
+    let codes : E.Lists = record { inputs = a.input_codes.now; states = a.state_codes.now; triples = a.triples.now } in
     let m : Images =
     record {
       map = a.map.now;
@@ -80,7 +80,7 @@ pub returns-in-Expanded : goal.returns-in-Expanded
 returns-in-Expanded c =
     let a = c.args in
     let c₁ : Taken = record { nexts = a.nexts.now; resets = a.resets.now; roots = a.roots.now } in
-    let codes : E.Lists = record { inputs = a.input_codes_lem.now; states = a.state_codes_lem.now; triples = a.triples.now } in
+    let codes : E.Lists = record { inputs = a.input_codes.now; states = a.state_codes.now; triples = a.triples.now } in
     let m : Images =
     record {
       map = a.map.now;
@@ -119,7 +119,7 @@ pub returns-in-TooBig : goal.returns-in-TooBig
 returns-in-TooBig c =
     let a = c.args in
     let c₁ : Taken = record { nexts = a.nexts.now; resets = a.resets.now; roots = a.roots.now } in
-    let codes : E.Lists = record { inputs = a.input_codes_lem.now; states = a.state_codes_lem.now; triples = a.triples.now } in
+    let codes : E.Lists = record { inputs = a.input_codes.now; states = a.state_codes.now; triples = a.triples.now } in
     let m : Images =
     record {
       map = a.map.now;
@@ -155,7 +155,7 @@ pub returns-in-Misshapen : goal.returns-in-Misshapen
 returns-in-Misshapen c =
     let a = c.args in
     let c₁ : Taken = record { nexts = a.nexts.now; resets = a.resets.now; roots = a.roots.now } in
-    let codes : E.Lists = record { inputs = a.input_codes_lem.now; states = a.state_codes_lem.now; triples = a.triples.now } in
+    let codes : E.Lists = record { inputs = a.input_codes.now; states = a.state_codes.now; triples = a.triples.now } in
     let m : Images =
     record {
       map = a.map.now;
@@ -191,7 +191,7 @@ pub returns-in-Short : goal.returns-in-Short
 returns-in-Short c =
     let a = c.args in
     let c₁ : Taken = record { nexts = a.nexts.now; resets = a.resets.now; roots = a.roots.now } in
-    let codes : E.Lists = record { inputs = a.input_codes_lem.now; states = a.state_codes_lem.now; triples = a.triples.now } in
+    let codes : E.Lists = record { inputs = a.input_codes.now; states = a.state_codes.now; triples = a.triples.now } in
     let m : Images =
     record {
       map = a.map.now;

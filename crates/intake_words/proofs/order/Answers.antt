@@ -13,7 +13,7 @@ returns-then-is_short c =
     let a = c.args in
     let lent : Lists = record {
       file = record { nexts = a.nexts.now; resets = a.resets.now; gates = a.gates.now; sizes = a.sizes.now; roots = a.roots.now };
-      codes = record { inputs = a.input_codes_lem.now; states = a.state_codes_lem.now; triples = a.triples.now };
+      codes = record { inputs = a.input_codes.now; states = a.state_codes.now; triples = a.triples.now };
       images = record {
         map = a.map.now;
         next_images = a.next_images.now;
@@ -99,7 +99,7 @@ returns c =
     let o = c.order-said in
     let lent : Lists = record {
       file = record { nexts = a.nexts.now; resets = a.resets.now; gates = a.gates.now; sizes = a.sizes.now; roots = a.roots.now };
-      codes = record { inputs = a.input_codes_lem.now; states = a.state_codes_lem.now; triples = a.triples.now };
+      codes = record { inputs = a.input_codes.now; states = a.state_codes.now; triples = a.triples.now };
       images = record {
         map = a.map.now;
         next_images = a.next_images.now;

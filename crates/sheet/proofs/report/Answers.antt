@@ -47,5 +47,5 @@ returns-in-Whole c =
 pub returns-in-Faulty : goal.returns-in-Faulty
 returns-in-Faulty c =
     let a = c.args in
-    report_put a.sheet.now c.Put-refused.ensures
+    report_put a.sheet.now c.put_refused.ensures
     (faulty_text a.sheet.now c.read-reading.result _ _ _ c.read-reading.ensures.0 c.in-Faulty.is refl)
