@@ -123,3 +123,12 @@ returns c =
     (nexts_front a.header.now a.words.now c.requires.0 c.requires.1 (split_nexts) _ c.split.ensures.1).same
     (part_of (input_count a.header.now) (3 * gate_count a.header.now) a.words.now)
     (part-rest (input_count a.header.now + 3 * gate_count a.header.now + 2 * latch_count a.header.now) a.words.now)))
+
+pub slice_bounds-split-end : goal.slice_bounds-split-end
+slice_bounds-split-end c = parts_end c.args.header.now c.args.words.now c.requires.0 c.requires.1
+
+pub slice_bounds-report_circuit-end-4 : goal.slice_bounds-report_circuit-end-4
+slice_bounds-report_circuit-end-4 c = gates_end_lem c.args.header.now c.args.words.now c.requires.0 c.requires.1
+
+pub slice_bounds-report_circuit-start-2 : goal.slice_bounds-report_circuit-start-2
+slice_bounds-report_circuit-start-2 c = parts_end c.args.header.now c.args.words.now c.requires.0 c.requires.1
