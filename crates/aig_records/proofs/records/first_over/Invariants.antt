@@ -1,5 +1,5 @@
 -- After i turns `found` is what stands in the first i records.
-use Rattle.std.proofs.Common.{◌-◌, ◌≡◌, ◌≤◌, length}
+use Rattle.std.proofs.Common.{◌-◌, ◌≡◌, ◌≤◌}
 use Rattle.std.specs.Prelude.{take}
 use Rattle.aig_records.specs.Checks.{over_in}
 use Rattle.aig_records.proofs.records.first_over.Given as goal
