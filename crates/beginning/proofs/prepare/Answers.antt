@@ -38,7 +38,7 @@ overflow_mul-n c =
 
 pub overflow_mul-g-2 : goal.overflow_mul-g-2
 overflow_mul-g-2 c =
-    record { fits = omega (arith, c.good.1.1.1.0.1) }
+    record { fits = omega arith }
 
 pub overflow_add-n-2 : goal.overflow_add-n-2
 overflow_add-n-2 c =
