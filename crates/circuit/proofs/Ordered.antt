@@ -98,7 +98,8 @@ gates_from_in t (p ∷ ps) zero h =
     inl (ap (λ (o : ℕ). record { output = o; first = p.larger; second = p.smaller }) (omega arith))
 gates_from_in t (p ∷ ps) (suc j) h =
     let e : t + 2 * suc j ≡ (t + 2) + 2 * j = omega arith in
-    rw e (inr (gates_from_in (t + 2) ps j (omega arith)))
+    inr (subst⁻¹ (λ (o : ℕ). In (record { output = o; first = (get_or ps j no_pair).larger; second = (get_or ps j no_pair).smaller }) (gates_from (t + 2) ps)) e
+    (gates_from_in (t + 2) ps j (omega arith)))
 
 -- and each of these gates stands at a place, with the pair of that place for its inputs
 pub record Placed (t : ℕ) (ps : List Pair) (g : Gate) : Type 0 where

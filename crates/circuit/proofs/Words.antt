@@ -1,6 +1,6 @@
 -- Lists of the definitions against the words that lent lists hold: the stack, the flat gates, the pairs made. Assumes nothing.
 use Prim.Native.Nat.{ℕ, zero, suc, ◌+◌, ◌*◌, ◌/◌, ◌%◌, ◌<◌}
-use mathlib.Core.Path.{◌≡◌, refl, sym, ◌∙◌, ap}
+use mathlib.Core.Path.{◌≡◌, refl, sym, ◌∙◌, ap, ap₂, subst⁻¹}
 use mathlib.Core.Logic.{◌⊎◌, inl, inr}
 use mathlib.Core.Bool.{Bool, true, false, cond}
 use mathlib.Core.List.{List, [], ◌∷◌, ◌++◌}
@@ -81,9 +81,13 @@ gates_in (o ∷ a ∷ []) k h = absurd (omega arith)
 gates_in (o ∷ a ∷ b ∷ ws) zero h = inl refl
 gates_in (o ∷ a ∷ b ∷ ws) (suc k) h =
     let e₀ : 3 * suc k ≡ suc (suc (suc (3 * k))) = omega arith in
-    let e₁ : suc (suc (suc (3 * k))) + 1 ≡ suc (suc (suc (3 * k + 1))) = omega arith in
-    let e₂ : suc (suc (suc (3 * k))) + 2 ≡ suc (suc (suc (3 * k + 2))) = omega arith in
-    rw (e₀, e₁, e₂) (inr (gates_in ws k (omega arith)))
+    let e₁ : 3 * suc k + 1 ≡ suc (suc (suc (3 * k + 1))) = omega arith in
+    let e₂ : 3 * suc k + 2 ≡ suc (suc (suc (3 * k + 2))) = omega arith in
+    let at : ℕ → ℕ = λ n. get_or (o ∷ a ∷ b ∷ ws) n 0 in
+    let e : gate_at (o ∷ a ∷ b ∷ ws) (suc k) ≡ gate_at ws k =
+        ap₂ (λ (x : ℕ) (y : ℕ × ℕ). record { output = x; first = y.0; second = y.1 }) (ap at e₀)
+        (ap₂ (λ (x y : ℕ). (x, y)) (ap at e₁) (ap at e₂)) in
+    inr (subst⁻¹ (λ (g : Gate). In g (gates_of ws)) e (gates_in ws k (omega arith)))
 
 -- the pairs made, as words
 pub pairs_length : (ps : List Pair) → length (pair_words ps) ≡ 2 * length ps

@@ -1,0 +1,62 @@
+-- `order::walked`: outputs unless trimmed, next states and roots are walked as one list. Assumes nothing.
+use native.Mathlib.Omega.{arith}
+use mathlib.Core.Path.{sym, ◌∙◌}
+use mathlib.Core.Logic.{⊎_elim}
+use lib.Seq.{length-take-le}
+use Rattle.aig.proofs.InTurn.{no_outputs, all_outputs, outputs_can, nexts_can, roots_can, all_walked}
+use Rattle.aig.proofs.order.walked.Goals as goal
+
+pub slice_bounds-each-end : goal.slice_bounds-each-end
+slice_bounds-each-end c = sym (length-take-le _ _ (⊎_elim (λ w. omega (arith, w.1)) (λ w. omega (arith, w.1)) c.if-trim.branch))
+
+pub each-end-requires : goal.each-end-requires
+each-end-requires c =
+    let a = c.args in (
+      omega arith,
+      omega arith,
+      outputs_can a.trim a.nexts.now a.roots.now c.requires c.if-trim.words
+          (⊎_elim (λ w. no_outputs a.gates.now w.0.taken w.1) (λ w. all_outputs c.requires w.0.left w.1) c.if-trim.branch),
+    )
+
+pub each-end-requires-2 : goal.each-end-requires-2
+each-end-requires-2 c =
+    let a = c.args in (
+      omega arith,
+      omega arith,
+      nexts_can a.trim a.nexts.now a.roots.now c.requires c.if-trim.words
+          (⊎_elim (λ w. no_outputs a.gates.now w.0.taken w.1) (λ w. all_outputs c.requires w.0.left w.1) c.if-trim.branch)
+          c.each-end.result _ _ _ c.each-end.ensures,
+    )
+
+pub each-requires : goal.each-requires
+each-requires c =
+    let a = c.args in (
+      omega arith,
+      omega arith,
+      roots_can a.trim a.nexts.now a.roots.now c.requires c.if-trim.words
+          (⊎_elim (λ w. no_outputs a.gates.now w.0.taken w.1) (λ w. all_outputs c.requires w.0.left w.1) c.if-trim.branch)
+          c.each-end.result _ _ _ c.each-end.ensures c.each-end-2.result _ _ _ c.each-end-2.ensures,
+    )
+
+pub shape_of-map : goal.shape_of-map
+shape_of-map c =
+    let each_map_kept = c.each-end.auto.1.1.1.1.1.0 in
+    c.each.auto.1.1.1.1.1.0 ∙ c.each-end-2.auto.1.1.1.1.1.0 ∙ each_map_kept
+
+pub shape_of-out : goal.shape_of-out
+shape_of-out c =
+    let each_out_kept = c.each-end.auto.1.1.1.1.1.1.0 in
+    c.each.auto.1.1.1.1.1.1.0 ∙ c.each-end-2.auto.1.1.1.1.1.1.0 ∙ each_out_kept
+
+pub shape_of-scratch : goal.shape_of-scratch
+shape_of-scratch c =
+    let each_scratch_kept = c.each-end.auto.1.1.1.1.1.1.1.0 in
+    c.each.auto.1.1.1.1.1.1.1.0 ∙ c.each-end-2.auto.1.1.1.1.1.1.1.0 ∙ each_scratch_kept
+
+pub returns : goal.returns
+returns c =
+    let a = c.args in
+    all_walked a.trim a.nexts.now a.roots.now c.requires c.if-trim.words
+    (⊎_elim (λ w. no_outputs a.gates.now w.0.taken w.1) (λ w. all_outputs c.requires w.0.left w.1) c.if-trim.branch)
+    c.each-end.result _ _ _ c.each-end.ensures c.each-end-2.result _ _ _ c.each-end-2.ensures c.each.result _ _ _
+    c.each.ensures

@@ -1,0 +1,13 @@
+-- `ascii::put::put_gates` meets its contract: a turn of the loop puts one gate line more (`Gating`). Assumes nothing.
+use Prim.Native.Nat.{◌-◌}
+use native.Mathlib.Omega.{arith}
+use Rattle.circuit.specs.Walk.{first_code}
+use Rattle.ascii.proofs.WriteParts.{Gating, gating_none, gating_more, gating_all}
+use borrow.Author.Rules.{rules}
+use Rattle.ascii.proofs.put.put_gates.Given as goal
+
+abbrev pub invariant-loop-j : goal.invariant-loop-j
+invariant-loop-j l = Gating l.initial.out l.at l.n l.gates l.out l.code l.j l.place
+
+abbrev pub decreases-loop-j : goal.decreases-loop-j
+decreases-loop-j l = l.g - l.j

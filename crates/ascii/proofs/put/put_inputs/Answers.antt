@@ -1,0 +1,23 @@
+-- `ascii::put::put_inputs` meets its contract: a turn of the loop puts one input line more. Assumes nothing.
+use Prim.Native.Nat.{◌-◌}
+use native.Mathlib.Omega.{arith}
+use Rattle.circuit.specs.Ordered.{count_from}
+use Rattle.sections.specs.Bytes.{line_bytes}
+use Rattle.sections.proofs.Parts.{Rowing, rowing_none}
+use Rattle.ascii.proofs.WriteParts.{inputs_more, inputs_all}
+use borrow.Author.Rules.{rules}
+use Rattle.ascii.proofs.put.put_inputs.Goals as goal
+
+pub loop-i-init : goal.loop-i-init
+loop-i-init c = rowing_none _ _ _ _ (omega arith)
+
+pub loop-i-preserved : goal.loop-i-preserved
+loop-i-preserved c =
+    inputs_more c.args.n c.loop-i.invariant _ _ (omega arith) (omega arith) c.put_line-place.ensures
+
+pub shape_of-out : goal.shape_of-out
+shape_of-out c = c.loop-i.invariant.left.kept
+
+pub returns : goal.returns
+returns c =
+    inputs_all c.args.n c.loop-i.invariant (omega arith)

@@ -1,0 +1,10 @@
+-- `sum` meets its contract: five counts of 32 bits cannot overflow the sum. Assumes nothing.
+use native.Mathlib.Omega.{arith}
+use borrow.Author.Rules.{rules}
+use Rattle.checks.proofs.Sizes.{sums}
+use Rattle.checks.proofs.sum.Goals as goal
+
+pub returns : goal.returns
+returns c =
+    sums c.args.t1 (omega arith) c.counted.ensures.same c.counted-2.ensures.same
+    c.counted-3.ensures.same c.counted-4.ensures.same c.counted-5.ensures.same

@@ -1,0 +1,17 @@
+-- `define_gates` meets its contract: what is left to define falls by one gate a turn; gate k's output is word 3k. Assumes nothing.
+use native.Mathlib.Omega.{arith}
+use Prim.Native.Nat.{◌≤◌, ◌-◌, ◌*◌, ◌/◌}
+use mathlib.Core.Path.{◌≡◌, refl, sym, ap, ◌∙◌}
+use Rattle.lit.specs.declared.Lit.{Lit}
+use lib.ListN.{length, get_or, drop}
+use Rattle.defs.proofs.Definitions.{gates_on, gates_again, gates_end_lem}
+use Rattle.circuit.specs.Outcome.{gates_of}
+use Rattle.defs.specs.Define.{define_gates}
+use Rattle.defs.proofs.define_gates.Given as goal
+
+abbrev pub invariant-loop-k : goal.invariant-loop-k
+invariant-loop-k l =
+    (l.k ≤ length l.gates / 3) × (length l.table ≡ length l.initial.table) × (define_gates l.initial.table (gates_of l.gates) 0 ≡ define_gates l.table (drop l.k (gates_of l.gates)) l.k)
+
+abbrev pub decreases-loop-k : goal.decreases-loop-k
+decreases-loop-k l = length l.gates / 3 - l.k

@@ -1,0 +1,33 @@
+-- `read_text` meets its contract: too few answer words, and the outcome of reading, are the two ways out, each by its law. Assumes nothing.
+use mathlib.Core.Path.{sym, ◌∙◌}
+use borrow.Author.Tests.{ltb-false}
+use Rattle.ascii.specs.Promise.{lists_of, seen}
+use Rattle.file_words.proofs.Words.{text_short, text_read}
+use borrow.Author.Rules.{rules}
+use Rattle.file_words.proofs.read_text.Goals as goal
+
+pub returns-then-is_short : goal.returns-then-is_short
+returns-then-is_short c =
+    let a = c.args in
+    let lent = lists_of a.inputs.now a.states.now a.nexts.now a.resets.now a.gates.now a.sizes.now a.roots.now in
+    text_short a.bytes.now lent a.answer.now (sym c.is_short.ensures ∙ c.if-is_short.true)
+
+pub put_words-requires : goal.put_words-requires
+put_words-requires c =
+    ltb-false _ 11 (sym c.is_short.ensures ∙ c.if-is_short.false)
+
+pub returns : goal.returns
+returns c =
+    let a = c.args in
+    let lent = lists_of a.inputs.now a.states.now a.nexts.now a.resets.now a.gates.now a.sizes.now a.roots.now in
+    let said = c.read-said in
+    let inputs_left = said.new.1.0 in
+    let states_left = said.new.1.1.0 in
+    let nexts_left = said.new.1.1.1.0 in
+    let resets_left = said.new.1.1.1.1.0 in
+    let gates_left = said.new.1.1.1.1.1.0 in
+    let sizes_left = said.new.1.1.1.1.1.1.0 in
+    let roots_left = said.new.1.1.1.1.1.1.1.0 in
+    let left = lists_of inputs_left states_left nexts_left resets_left gates_left sizes_left roots_left in
+    text_read a.bytes.now lent a.answer.now (sym c.is_short.ensures ∙ c.if-is_short.false) (seen said.result left) _ _ _ _
+    said.ensures c.number.ensures c.word.ensures.same c.file_read.ensures c.put_words.ensures

@@ -1,0 +1,20 @@
+-- `put_order` meets its contract: the file's eleven words and the three after them are the fourteen. Assumes nothing.
+use native.Mathlib.Omega.{arith}
+use Prim.Native.Nat.{ℕ}
+use mathlib.Core.Path.{◌∙◌}
+use borrow.Author.Rules.{rules, length_unmapped}
+use Rattle.intake_words.proofs.Ordering.{order_put}
+use Rattle.intake_words.proofs.put_order.Goals as goal
+
+pub shape_of-answer : goal.shape_of-answer
+shape_of-answer c =
+    c.put_end.auto.1.1.1.0 ∙ c.put_file.auto.1.0
+
+pub returns : goal.returns
+returns c =
+    let a = c.args in
+    let counts_five = length_unmapped ℕ a.said.read.counts 5 (omega arith) in (
+      c.number.ensures,
+      order_put a.said a.answer.now c.requires counts_five _ _ _ _ _ c.put_file.ensures c.word-made.ensures.same
+          c.byte_count-bytes.ensures c.who_refused-who.ensures c.put_end.ensures,
+    )

@@ -1,0 +1,86 @@
+-- `lists::report_codes` meets its contract: check 4 is made on the codes themselves, and codes that pass it are words. Assumes nothing.
+use borrow.Author.Rules.{rules}
+use mathlib.Core.Path.{sym, ◌∙◌}
+use native.Mathlib.Omega.{arith}
+use lib.Seq.{length-take-le}
+use Rattle.sheet_read.proofs.Headers.{codes_few, bounds}
+use Rattle.sheet_lines.proofs.Texts.{put_same}
+use Rattle.sheet.proofs.Circuits.{codes_long, words_front_lem, narrowed_text, narrow_words_lem, over_refused}
+use Rattle.sheet.proofs.lists.report_codes.Goals as goal
+
+pub slice_bounds-first_over-end : goal.slice_bounds-first_over-end
+slice_bounds-first_over-end c =
+    let a = c.args in
+    sym (codes_long a.header.now a.codes.now c.requires.0 c.requires.1 c.code_count-count.result
+    c.code_count-count.ensures)
+
+pub overflow_mul-header : goal.overflow_mul-header
+overflow_mul-header c =
+    omega (arith, bounds c.requires.0)
+
+pub overflow_add-header : goal.overflow_add-header
+overflow_add-header c =
+    omega (arith, bounds c.requires.0)
+
+pub slice_bounds-narrow-end : goal.slice_bounds-narrow-end
+slice_bounds-narrow-end c =
+    let a = c.args in
+    sym (codes_long a.header.now a.codes.now c.requires.0 c.requires.1 c.code_count-count.result
+    c.code_count-count.ensures)
+
+pub slice_bounds-words-end : goal.slice_bounds-words-end
+slice_bounds-words-end c =
+    omega (arith, c.code_count-count.ensures, codes_few c.requires.0)
+
+pub slice_bounds-narrow-end-in-Nothing : goal.slice_bounds-narrow-end-in-Nothing
+slice_bounds-narrow-end-in-Nothing c =
+    sym (length-take-le c.code_count-count.result c.All-words.result
+    (omega (arith, c.code_count-count.ensures, codes_few c.requires.0, c.All-words.ensures)))
+
+pub narrow-requires : goal.narrow-requires
+narrow-requires c =
+    let a = c.args in (
+      length-take-le c.code_count-count.result c.All-words.result
+          (omega (arith, c.code_count-count.ensures, codes_few c.requires.0, c.All-words.ensures)) ∙ sym
+          (codes_long a.header.now a.codes.now c.requires.0 c.requires.1 c.code_count-count.result
+          c.code_count-count.ensures),
+      narrow_words_lem a.header.now a.codes.now c.requires.0 c.requires.1
+          c.code_count-count.result c.code_count-count.ensures (sym c.in-Nothing.is ∙ c.first_over-offender.ensures),
+    )
+
+pub slice_bounds-words-end-in-Nothing : goal.slice_bounds-words-end-in-Nothing
+slice_bounds-words-end-in-Nothing c =
+    let a = c.args in
+    (words_front_lem a.header.now a.codes.now c.requires.0 c.requires.1 c.code_count-count.result
+    c.code_count-count.ensures c.narrow.new.1.0 _ c.narrow.ensures).room
+
+pub slice_bounds-report_words-end : goal.slice_bounds-report_words-end
+slice_bounds-report_words-end c =
+    let narrow_words = c.narrow.new.1.0 in
+    let a = c.args in
+    (words_front_lem a.header.now a.codes.now c.requires.0 c.requires.1 c.code_count-count.result
+    c.code_count-count.ensures (narrow_words) _ c.narrow.ensures).count
+
+pub report_words-requires : goal.report_words-requires
+report_words-requires c =
+    let narrow_words = c.narrow.new.1.0 in
+    let a = c.args in (
+      c.requires.0,
+      sym (words_front_lem a.header.now a.codes.now c.requires.0 c.requires.1 c.code_count-count.result
+          c.code_count-count.ensures (narrow_words) _ c.narrow.ensures).count ∙ c.code_count-count.ensures,
+    )
+
+pub returns-in-Nothing : goal.returns-in-Nothing
+returns-in-Nothing c =
+    let narrow_words = c.narrow.new.1.0 in
+    let a = c.args in
+    put_same c.report_words.ensures (narrowed_text a.header.now a.codes.now c.requires.0 c.requires.1
+    c.code_count-count.result c.code_count-count.ensures _
+    (words_front_lem a.header.now a.codes.now c.requires.0 c.requires.1 c.code_count-count.result
+    c.code_count-count.ensures (narrow_words) _ c.narrow.ensures).same)
+
+pub returns-in-Over : goal.returns-in-Over
+returns-in-Over c =
+    let a = c.args in
+    put_same c.Put-refused.ensures (over_refused a.header.now a.codes.now c.requires.0 c.requires.1
+    c.code_count-count.result c.code_count-count.ensures _ (sym c.in-Over.is ∙ c.first_over-offender.ensures))

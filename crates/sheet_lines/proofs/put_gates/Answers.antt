@@ -1,0 +1,28 @@
+-- `sheet_lines::put_gates` meets its contract: a turn of the loop puts the line of one gate more (`Listing`). Assumes nothing.
+use borrow.Author.Rules.{rules}
+use Prim.Native.Nat.{◌-◌}
+use mathlib.Core.Path.{refl}
+use native.Mathlib.Omega.{arith}
+use Rattle.circuit.specs.Ordered.{gates_from}
+use Rattle.circuit.specs.Outcome.{pairs_of}
+use Rattle.sheet_lines.specs.Lines.{gate_line}
+use Rattle.sheet_lines.proofs.Texts.{Listing, listing_none, listing_more, listing_all, listing_keeps, no_gate, made_length, made_line}
+use Rattle.sheet_lines.proofs.put_gates.Goals as goal
+
+pub loop-j-init : goal.loop-j-init
+loop-j-init c = listing_none _ _ _ _ (omega arith)
+
+pub loop-j-preserved : goal.loop-j-preserved
+loop-j-preserved c =
+    let a = c.args in
+    listing_more c.loop-j.invariant no_gate (omega arith) (omega (arith, made_length a.first a.gates.now))
+    (made_line a.first a.gates.now c.loop-j.j _ _ _ (omega arith) refl c.wide-larger.ensures c.wide-smaller.ensures)
+    c.put_gate-place.ensures
+
+pub shape_of-out : goal.shape_of-out
+shape_of-out c = listing_keeps c.loop-j.invariant
+
+pub returns : goal.returns
+returns c =
+    let a = c.args in
+    listing_all c.loop-j.invariant (omega (arith, made_length a.first a.gates.now))

@@ -1,0 +1,20 @@
+-- `text::put_bytes` meets its contract: a turn of the loop puts one byte more at the place after the last (`Putting`). Assumes nothing.
+use borrow.Author.Rules.{rules}
+use Prim.Native.Nat.{◌-◌}
+use native.Mathlib.Omega.{arith}
+use lib.ListN.{length}
+use Rattle.text.proofs.Puts.{Putting, putting_none, putting_more, putting_all, putting_keeps}
+use Rattle.text.proofs.put_bytes.Goals as goal
+
+pub loop-i-init : goal.loop-i-init
+loop-i-init c = putting_none _ _ _ (omega arith)
+
+pub loop-i-preserved : goal.loop-i-preserved
+loop-i-preserved c =
+    putting_more c.loop-i.invariant _ _ (omega arith) (omega arith) c.put-place.ensures.0 c.put-place.ensures.1
+
+pub shape_of-out : goal.shape_of-out
+shape_of-out c = putting_keeps c.loop-i.invariant
+
+pub returns : goal.returns
+returns c = putting_all c.loop-i.invariant (omega arith)
