@@ -11,42 +11,42 @@ walk_all-end-requires c =
     let a = c.args in
     let lent =
     lent_of a.circuit a.inputs.now a.states.now a.nexts.now a.resets.now a.gates.now a.roots.now a.map.now
-    a.next-images.now a.reset-images.now a.root-images.now a.gates-out.now a.scratch.now in
+    a.next_images.now a.reset_images.now a.root_images.now a.gates_out.now a.scratch.now in
     walk_in lent (passed lent (sym c.checked-check.ensures ∙ c.in-Passed.is))
 
 pub shape_of-map-in-Passed : goal.shape_of-map-in-Passed
 shape_of-map-in-Passed c =
-    c.conclude.auto.1.1.1.1.1.1.1.1.0 ∙ c.walk_all-end.auto.1.1.1.1.1.1.0
+    c.conclude.auto.map ∙ c.walk_all-end.auto.map
 
 pub shape_of-next_images-in-Passed : goal.shape_of-next_images-in-Passed
 shape_of-next_images-in-Passed c =
-    c.conclude.auto.1.1.1.1.1.1.1.1.1.0
+    c.conclude.auto.next_images
 
 pub shape_of-reset_images-in-Passed : goal.shape_of-reset_images-in-Passed
 shape_of-reset_images-in-Passed c =
-    c.conclude.auto.1.1.1.1.1.1.1.1.1.1.0
+    c.conclude.auto.reset_images
 
 pub shape_of-root_images-in-Passed : goal.shape_of-root_images-in-Passed
 shape_of-root_images-in-Passed c =
-    c.conclude.auto.1.1.1.1.1.1.1.1.1.1.1.0
+    c.conclude.auto.root_images
 
 pub shape_of-gates_out-in-Passed : goal.shape_of-gates_out-in-Passed
 shape_of-gates_out-in-Passed c =
-    c.conclude.auto.1.1.1.1.1.1.1.1.1.1.1.1.0 ∙ c.walk_all-end.auto.1.1.1.1.1.1.1.0
+    c.conclude.auto.gates_out ∙ c.walk_all-end.auto.gates_out
 
 pub shape_of-scratch-in-Passed : goal.shape_of-scratch-in-Passed
 shape_of-scratch-in-Passed c =
-    c.conclude.auto.1.1.1.1.1.1.1.1.1.1.1.1.1.0 ∙ c.walk_all-end.auto.1.1.1.1.1.1.1.1.0
+    c.conclude.auto.scratch ∙ c.walk_all-end.auto.scratch
 
 pub returns-in-Passed : goal.returns-in-Passed
 returns-in-Passed c =
     let a = c.args in
-    let map_kept = c.walk_all-end.auto.1.1.1.1.1.1.0 in
-    let gates_out_kept = c.walk_all-end.auto.1.1.1.1.1.1.1.0 in
-    let scratch_kept = c.walk_all-end.auto.1.1.1.1.1.1.1.1.0 in
+    let map_kept = c.walk_all-end.auto.map in
+    let gates_out_kept = c.walk_all-end.auto.gates_out in
+    let scratch_kept = c.walk_all-end.auto.scratch in
     let lent =
     lent_of a.circuit a.inputs.now a.states.now a.nexts.now a.resets.now a.gates.now a.roots.now a.map.now
-    a.next-images.now a.reset-images.now a.root-images.now a.gates-out.now a.scratch.now in
+    a.next_images.now a.reset_images.now a.root_images.now a.gates_out.now a.scratch.now in
     c.conclude.ensures ∙ ends lent (passed lent (sym c.checked-check.ensures ∙ c.in-Passed.is)) _ _ _ _ c.walk_all-end.ensures map_kept gates_out_kept
     scratch_kept
 
@@ -73,5 +73,5 @@ returns-in-Failed c =
     let a = c.args in
     let lent =
     lent_of a.circuit a.inputs.now a.states.now a.nexts.now a.resets.now a.gates.now a.roots.now a.map.now
-    a.next-images.now a.reset-images.now a.root-images.now a.gates-out.now a.scratch.now in
+    a.next_images.now a.reset_images.now a.root_images.now a.gates_out.now a.scratch.now in
     failed lent _ (sym c.checked-check.ensures ∙ c.in-Failed.is)

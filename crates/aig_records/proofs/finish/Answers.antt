@@ -29,7 +29,7 @@ returns-in-Failed c =
     let a = c.args in
     let lent =
     lent_of a.circuit a.inputs.now a.states.now a.nexts.now a.resets.now (take (a.checked.laid * 3) a.flat.now)
-    a.roots.now a.map.now a.next-images.now a.reset-images.now a.root-images.now a.gates-out.now a.scratch.now in
+    a.roots.now a.map.now a.next_images.now a.reset_images.now a.root_images.now a.gates_out.now a.scratch.now in
     sym (ap (λ (k : Check). finished k lent a.flat.now) c.in-Failed.is)
 
 pub returns-in-Passed : goal.returns-in-Passed
@@ -37,6 +37,6 @@ returns-in-Passed c =
     let a = c.args in
     let lent =
     lent_of a.circuit a.inputs.now a.states.now a.nexts.now a.resets.now (take (a.checked.laid * 3) a.flat.now)
-    a.roots.now a.map.now a.next-images.now a.reset-images.now a.root-images.now a.gates-out.now a.scratch.now in
+    a.roots.now a.map.now a.next_images.now a.reset_images.now a.root_images.now a.gates_out.now a.scratch.now in
     finish_passed lent a.flat.now (a.checked.laid * 3) (sym (front_length _ a.flat.now c.requires))
     c.requires a.checked.check c.in-Passed.is _ c.renumber-answer.ensures _ c.fill.ensures

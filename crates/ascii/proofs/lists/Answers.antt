@@ -5,7 +5,7 @@ use Rattle.ascii.proofs.lists.Goals as goal
 
 pub shape_of-inputs-in-After-gated : goal.shape_of-inputs-in-After-gated
 shape_of-inputs-in-After-gated c =
-    c.inputs-listed.auto.1.1.1.1.0
+    c.inputs-listed.auto.list
 
 pub returns-in-After-gated : goal.returns-in-After-gated
 returns-in-After-gated c =
@@ -16,7 +16,7 @@ returns-in-After-gated c =
 
 pub shape_of-inputs-in-Broken-gated : goal.shape_of-inputs-in-Broken-gated
 shape_of-inputs-in-Broken-gated c =
-    c.inputs-listed.auto.1.1.1.1.0
+    c.inputs-listed.auto.list
 
 pub returns-in-Broken-gated : goal.returns-in-Broken-gated
 returns-in-Broken-gated c =

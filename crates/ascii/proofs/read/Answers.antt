@@ -17,15 +17,15 @@ returns-in-Is c =
 
 pub shape_of-inputs-in-Not : goal.shape_of-inputs-in-Not
 shape_of-inputs-in-Not c =
-    c.refused.auto.1.1.0 ∙ c.body-rest.auto.1.1.1.0
+    c.refused.auto.inputs ∙ c.body-rest.auto.inputs
 
 pub shape_of-states-in-Not : goal.shape_of-states-in-Not
 shape_of-states-in-Not c =
-    c.refused.auto.1.1.1.0 ∙ c.body-rest.auto.1.1.1.1.0
+    c.refused.auto.states ∙ c.body-rest.auto.states
 
 pub shape_of-nexts-in-Not : goal.shape_of-nexts-in-Not
 shape_of-nexts-in-Not c =
-    c.refused.auto.1.1.1.1.0 ∙ c.body-rest.auto.1.1.1.1.1.0
+    c.refused.auto.nexts ∙ c.body-rest.auto.nexts
 
 pub returns-in-Not : goal.returns-in-Not
 returns-in-Not c =
@@ -33,13 +33,13 @@ returns-in-Not c =
     _ _ (sym c.read_header-first.ensures ∙ c.in-Counts.is) (lists_of _ _ _ _ _ _ _) _ c.body-rest.ensures _ _ _
     c.in-Not.is
     (record {
-      inputs = c.body-rest.auto.1.1.1.0;
-      states = c.body-rest.auto.1.1.1.1.0;
-      nexts = c.body-rest.auto.1.1.1.1.1.0;
-      resets = c.body-rest.auto.1.1.1.1.1.1.0;
-      gates = c.body-rest.auto.1.1.1.1.1.1.1.0;
-      sizes = c.body-rest.auto.1.1.1.1.1.1.1.1.0;
-      roots = c.body-rest.auto.1.1.1.1.1.1.1.1.1.0;
+      inputs = c.body-rest.auto.inputs;
+      states = c.body-rest.auto.states;
+      nexts = c.body-rest.auto.nexts;
+      resets = c.body-rest.auto.resets;
+      gates = c.body-rest.auto.gates;
+      sizes = c.body-rest.auto.sizes;
+      roots = c.body-rest.auto.roots;
     })
     c.refused.ensures
 

@@ -15,4 +15,4 @@ returns-in-After c =
 pub returns-in-Broken : goal.returns-in-Broken
 returns-in-Broken c =
     section_no put_gates no_numbers (gates_at c.args.s.now c.args.limit c.args.m c.args.at) _ c.args.list.now _
-    c.gates_into-end.ensures _ _ _ c.in-Broken.is (c.fill.ensures ∙ ap zeros c.gates_into-end.auto.1.1.1.1.0)
+    c.gates_into-end.ensures _ _ _ c.in-Broken.is (c.fill.ensures ∙ ap zeros c.gates_into-end.auto.list)

@@ -15,4 +15,4 @@ returns-in-After c =
 pub returns-in-Broken : goal.returns-in-Broken
 returns-in-Broken c =
     section_no put_numbers no_numbers (inputs_at c.args.s.now c.args.limit c.args.n c.args.at) _ c.args.list.now _
-    c.inputs_into-end.ensures _ _ _ c.in-Broken.is (c.fill.ensures ∙ ap zeros c.inputs_into-end.auto.1.1.1.1.0)
+    c.inputs_into-end.ensures _ _ _ c.in-Broken.is (c.fill.ensures ∙ ap zeros c.inputs_into-end.auto.list)

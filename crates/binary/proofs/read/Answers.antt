@@ -22,8 +22,8 @@ returns-in-Not c =
     read-refused c.args.bytes.now (lists_of c.args.nexts.now c.args.resets.now c.args.gates.now c.args.sizes.now
     c.args.roots.now) _ _
     (sym c.read_header-first.ensures ∙ c.in-Counts.is) (lists_of _ _ _ _ _) _ c.body-rest.ensures _ _ _ c.in-Not.is
-    c.body-rest.auto.1.1.1.0 c.body-rest.auto.1.1.1.1.0 c.body-rest.auto.1.1.1.1.1.0 c.body-rest.auto.1.1.1.1.1.1.0
-    c.body-rest.auto.1.1.1.1.1.1.1.0 c.refused.ensures
+    c.body-rest.auto.nexts c.body-rest.auto.resets c.body-rest.auto.gates c.body-rest.auto.sizes
+    c.body-rest.auto.roots c.refused.ensures
 
 pub returns-in-NoCounts : goal.returns-in-NoCounts
 returns-in-NoCounts c =

@@ -8,7 +8,7 @@ pub returns : goal.returns
 returns c =
     let a = c.args in
     let said = c.expand-said in
-    let given : Lists = record { inputs = a.input_codes_lem.now; states = a.state_codes_lem.now; triples = a.triples.now } in
+    let given : Lists = record { inputs = a.input_codes.now; states = a.state_codes.now; triples = a.triples.now } in
     let inputs_left = said.new.1.1.1.0 in
     let states_left = said.new.1.1.1.1.0 in
     let triples_left = said.new.1.1.1.1.1.0 in

@@ -8,7 +8,7 @@ use Rattle.capi.proofs.imdagluz_renumber.Goals as goal
 
 pub shape_of-answer-then-first-ne0 : goal.shape_of-answer-then-first-ne0
 shape_of-answer-then-first-ne0 c =
-    c.refused_first-first.auto.1.1.0
+    c.refused_first-first.auto.answer
 
 pub returns-then-first-ne0 : goal.returns-then-first-ne0
 returns-then-first-ne0 c =
@@ -16,7 +16,7 @@ returns-then-first-ne0 c =
     let k = record_of a.top a.counts.now a.flags in
     let lent =
     lent_of k a.inputs.now a.states.now a.nexts.now a.resets.now a.gates.now a.roots.now a.map.now
-    a.next-images.now a.reset-images.now a.root-images.now a.gates-out.now a.scratch.now in
+    a.next_images.now a.reset_images.now a.root_images.now a.gates_out.now a.scratch.now in
     way_first a.counts.now a.flags a.answer.now _ _ c.refused_first-first.ensures c.if-first-ne0.true lent
 
 pub record_of-requires : goal.record_of-requires
@@ -32,38 +32,38 @@ put_answer-requires c =
 
 pub shape_of-map : goal.shape_of-map
 shape_of-map c =
-    let renumber_map_kept = c.renumber-said.auto.1.1.1.1.1.1.1.0 in
+    let renumber_map_kept = c.renumber-said.auto.map in
     renumber_map_kept
 
 pub shape_of-next_images : goal.shape_of-next_images
 shape_of-next_images c =
-    let renumber_next_images_kept = c.renumber-said.auto.1.1.1.1.1.1.1.1.0 in
+    let renumber_next_images_kept = c.renumber-said.auto.next_images in
     renumber_next_images_kept
 
 pub shape_of-reset_images : goal.shape_of-reset_images
 shape_of-reset_images c =
-    let renumber_reset_images_kept = c.renumber-said.auto.1.1.1.1.1.1.1.1.1.0 in
+    let renumber_reset_images_kept = c.renumber-said.auto.reset_images in
     renumber_reset_images_kept
 
 pub shape_of-root_images : goal.shape_of-root_images
 shape_of-root_images c =
-    let renumber_root_images_kept = c.renumber-said.auto.1.1.1.1.1.1.1.1.1.1.0 in
+    let renumber_root_images_kept = c.renumber-said.auto.root_images in
     renumber_root_images_kept
 
 pub shape_of-gates_out : goal.shape_of-gates_out
 shape_of-gates_out c =
-    let renumber_gates_out_kept = c.renumber-said.auto.1.1.1.1.1.1.1.1.1.1.1.0 in
+    let renumber_gates_out_kept = c.renumber-said.auto.gates_out in
     renumber_gates_out_kept
 
 pub shape_of-scratch : goal.shape_of-scratch
 shape_of-scratch c =
-    let renumber_scratch_kept = c.renumber-said.auto.1.1.1.1.1.1.1.1.1.1.1.1.0 in
+    let renumber_scratch_kept = c.renumber-said.auto.scratch in
     renumber_scratch_kept
 
 pub shape_of-answer : goal.shape_of-answer
 shape_of-answer c =
-    let put_answer_answer_kept = c.put_answer.auto.1.0 in
-    let refused_first_answer_kept = c.refused_first-first.auto.1.1.0 in
+    let put_answer_answer_kept = c.put_answer.auto.answer in
+    let refused_first_answer_kept = c.refused_first-first.auto.answer in
     put_answer_answer_kept ∙ refused_first_answer_kept
 
 pub returns : goal.returns
@@ -71,7 +71,7 @@ returns c =
     let a = c.args in
     let given : CircuitRecord → Lent =
     λ k. lent_of k a.inputs.now a.states.now a.nexts.now a.resets.now a.gates.now a.roots.now a.map.now
-    a.next-images.now a.reset-images.now a.root-images.now a.gates-out.now a.scratch.now in
+    a.next_images.now a.reset_images.now a.root_images.now a.gates_out.now a.scratch.now in
     let q = c.record_of in
     let r = c.renumber-said in
     let left =

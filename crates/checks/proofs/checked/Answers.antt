@@ -9,7 +9,7 @@ over-first-requires c =
     let a = c.args in
     let lent =
     lent_of a.circuit a.inputs.now a.states.now a.nexts.now a.resets.now a.gates.now a.roots.now a.map.now
-    a.next-images.now a.reset-images.now a.root-images.now a.gates-out.now a.scratch.now in
+    a.next_images.now a.reset_images.now a.root_images.now a.gates_out.now a.scratch.now in
     shaped lent _ c.sized-sizes.ensures c.in-Passed.is
 
 pub returns-in-Failed : goal.returns-in-Failed
@@ -17,7 +17,7 @@ returns-in-Failed c =
     let a = c.args in
     let lent =
     lent_of a.circuit a.inputs.now a.states.now a.nexts.now a.resets.now a.gates.now a.roots.now a.map.now
-    a.next-images.now a.reset-images.now a.root-images.now a.gates-out.now a.scratch.now in
+    a.next_images.now a.reset_images.now a.root_images.now a.gates_out.now a.scratch.now in
     fails_sized lent _ c.sized-sizes.ensures _ c.in-Failed.is
 
 pub returns-in-Literal : goal.returns-in-Literal
@@ -25,7 +25,7 @@ returns-in-Literal c =
     let a = c.args in
     let lent =
     lent_of a.circuit a.inputs.now a.states.now a.nexts.now a.resets.now a.gates.now a.roots.now a.map.now
-    a.next-images.now a.reset-images.now a.root-images.now a.gates-out.now a.scratch.now in
+    a.next_images.now a.reset_images.now a.root_images.now a.gates_out.now a.scratch.now in
     fails_over lent _ c.sized-sizes.ensures c.in-Passed.is _ c.over-first.ensures _ c.in-Literal.is
 
 pub returns-in-Nothing : goal.returns-in-Nothing
@@ -33,5 +33,5 @@ returns-in-Nothing c =
     let a = c.args in
     let lent =
     lent_of a.circuit a.inputs.now a.states.now a.nexts.now a.resets.now a.gates.now a.roots.now a.map.now
-    a.next-images.now a.reset-images.now a.root-images.now a.gates-out.now a.scratch.now in
+    a.next_images.now a.reset_images.now a.root_images.now a.gates_out.now a.scratch.now in
     passes lent _ c.sized-sizes.ensures c.in-Passed.is _ c.over-first.ensures c.in-Nothing.is _ c.resets_checked.ensures

@@ -39,7 +39,7 @@ pub returns-then-not-is_reset : goal.returns-then-not-is_reset
 returns-then-not-is_reset c =
     let a = c.args in
     stray_here a.states.now a.resets.now _ c.loop-i-test.true c.if-resets-i.false c.is_reset.result c.is_reset.ensures _
-    (not-true c.is_reset.result c.if-not-is_reset.true) c.from_code.ensures ∙ ap found (sym c.loop-i.invariant.1)
+    c.if-not-is_reset.true c.from_code.ensures ∙ ap found (sym c.loop-i.invariant.1)
 
 pub overflow_add-i : goal.overflow_add-i
 overflow_add-i c =
@@ -54,7 +54,7 @@ loop-i-preserved c =
     let a = c.args in (
       turn_within c.loop-i-test.true,
       c.loop-i.invariant.1 ∙ stray_on a.states.now a.resets.now _ c.loop-i-test.true c.if-resets-i.false c.is_reset.result c.is_reset.ensures
-          (not-false c.is_reset.result c.if-not-is_reset.false),
+          c.if-not-is_reset.false,
     )
 
 pub returns : goal.returns

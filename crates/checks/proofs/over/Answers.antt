@@ -4,13 +4,14 @@ use mathlib.Core.Path.{ap, ◌∙◌}
 use Rattle.checks.specs.Bare.{bare}
 use Rattle.checks.proofs.Sizes.{fits_twice, fits_bound}
 use Rattle.checks.proofs.Offenders.{in_inputs, in_gates, in_latches_lem, in_roots_lem}
+use native.Mathlib.Omega.{arith}
 use Rattle.checks.proofs.over.Goals as goal
 
 pub overflow_mul-bound : goal.overflow_mul-bound
-overflow_mul-bound c = fits_twice c.wide.ensures c.index.type-inv
+overflow_mul-bound c = fits_twice c.wide.ensures (omega arith)
 
 pub overflow_add-bound : goal.overflow_add-bound
-overflow_add-bound c = fits_bound c.wide.ensures c.index.type-inv
+overflow_add-bound c = fits_bound c.wide.ensures (omega arith)
 
 pub returns-in-Literal : goal.returns-in-Literal
 returns-in-Literal c =

@@ -6,5 +6,5 @@ use Rattle.checks.proofs.sum.Goals as goal
 
 pub returns : goal.returns
 returns c =
-    sums c.args.t1 (omega arith) c.counted.ensures.same c.counted-2.ensures.same
+    sums c.args.counts (omega arith) c.counted.ensures.same c.counted-2.ensures.same
     c.counted-3.ensures.same c.counted-4.ensures.same c.counted-5.ensures.same

@@ -29,7 +29,7 @@ mark_of-requires c =
 
 pub returns-in-Literal : goal.returns-in-Literal
 returns-in-Literal c =
-    gates_again c.loop-k.table c.args.gates.now c.define-again.new.0 c.loop-k.k c.from_code.result
+    gates_again c.loop-k.table c.args.gates.now c.define-again.new.table c.loop-k.k c.from_code.result
     c.mark_of.result c.define-again.result c.loop-k-test.true c.from_code.ensures
     c.mark_of.ensures c.define-again.ensures _ c.in-Literal.is ∙ sym c.loop-k.invariant.2
 
@@ -44,9 +44,9 @@ loop-k-smaller c =
 pub loop-k-preserved : goal.loop-k-preserved
 loop-k-preserved c = (
   omega (arith, c.loop-k-test.true),
-  c.define-again.auto.0 ∙ c.loop-k.invariant.1,
+  c.define-again.auto.table ∙ c.loop-k.invariant.1,
   c.loop-k.invariant.2 ∙ gates_on
-      c.loop-k.table c.args.gates.now c.define-again.new.0 c.loop-k.k c.from_code.result
+      c.loop-k.table c.args.gates.now c.define-again.new.table c.loop-k.k c.from_code.result
       c.mark_of.result c.define-again.result c.loop-k-test.true c.from_code.ensures
       c.mark_of.ensures c.define-again.ensures c.in_default.is,
 )

@@ -20,7 +20,7 @@ bounds-literals-i c = c.loop-i-test.true
 
 pub returns-in-Literal : goal.returns-in-Literal
 returns-in-Literal c =
-    sources_again c.loop-i.table c.args.literals.now c.define-again.new.0 c.loop-i.i c.from_code.result _
+    sources_again c.loop-i.table c.args.literals.now c.define-again.new.table c.loop-i.i c.from_code.result _
     c.define-again.result c.loop-i-test.true c.from_code.ensures c.define-again.ensures
     c.in-Literal.is ∙ sym c.loop-i.invariant.2
 
@@ -35,9 +35,9 @@ loop-i-smaller c =
 pub loop-i-preserved : goal.loop-i-preserved
 loop-i-preserved c = (
   omega (arith, c.loop-i-test.true),
-  c.define-again.auto.0 ∙ c.loop-i.invariant.1,
+  c.define-again.auto.table ∙ c.loop-i.invariant.1,
   c.loop-i.invariant.2 ∙ sources_on
-      c.loop-i.table c.args.literals.now c.define-again.new.0 c.loop-i.i c.from_code.result
+      c.loop-i.table c.args.literals.now c.define-again.new.table c.loop-i.i c.from_code.result
       c.define-again.result c.loop-i-test.true c.from_code.ensures c.define-again.ensures c.in_default.is,
 )
 

@@ -15,7 +15,7 @@ returns-in-Reached c =
     let a = c.args in
     let lent =
     lent_of a.circuit a.inputs.now a.states.now a.nexts.now a.resets.now a.gates.now a.roots.now a.map.now
-    a.next-images.now a.reset-images.now a.root-images.now a.gates-out.now a.scratch.now in
+    a.next_images.now a.reset_images.now a.root_images.now a.gates_out.now a.scratch.now in
     finished lent (c.wide-n.ensures ∙ c.index.ensures) c.in-Reached.is c.finish.ensures c.renumbered.ensures
 
 pub returns-in-Stopped : goal.returns-in-Stopped
@@ -23,5 +23,5 @@ returns-in-Stopped c =
     let a = c.args in
     let lent =
     lent_of a.circuit a.inputs.now a.states.now a.nexts.now a.resets.now a.gates.now a.roots.now a.map.now
-    a.next-images.now a.reset-images.now a.root-images.now a.gates-out.now a.scratch.now in
+    a.next_images.now a.reset_images.now a.root_images.now a.gates_out.now a.scratch.now in
     cleared lent (c.wide-n.ensures ∙ c.index.ensures) c.in-Stopped.is c.clear.ensures

@@ -3,15 +3,15 @@ use Rattle.ending.proofs.finish.Goals as goal
 
 pub shape_of-next_images : goal.shape_of-next_images
 shape_of-next_images c =
-    c.images.auto.1.1.0
+    c.images.auto.out
 
 pub shape_of-reset_images : goal.shape_of-reset_images
 shape_of-reset_images c =
-    c.carry.auto.1.1.0
+    c.carry.auto.out
 
 pub shape_of-root_images : goal.shape_of-root_images
 shape_of-root_images c =
-    c.images-2.auto.1.1.0
+    c.images-2.auto.out
 
 pub returns : goal.returns
 returns c =

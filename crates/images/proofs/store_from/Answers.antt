@@ -33,7 +33,7 @@ pub loop-i-preserved : goal.loop-i-preserved
 loop-i-preserved c = (
   omega (arith, c.loop-i-test.true),
   omega (arith, c.loop-i.invariant.1),
-  c.insert.auto.0 ∙ c.loop-i.invariant.2,
+  c.insert.auto.map ∙ c.loop-i.invariant.2,
   c.loop-i.invariant.3 ∙ store_from_on _ _ _ _ _ _ _ c.loop-i-test.true c.from_code.ensures
       c.from_code-in-loop-i.ensures c.insert.ensures,
 )

@@ -11,11 +11,11 @@ record_of-requires c =
 
 pub slice_bounds-renumber-end : goal.slice_bounds-renumber-end
 slice_bounds-renumber-end c =
-    front _ _ c.args.input_codes_lem.now c.wide-i.ensures c.requires.1.inputs
+    front _ _ c.args.input_codes.now c.wide-i.ensures c.requires.1.inputs
 
 pub slice_bounds-renumber-end-2 : goal.slice_bounds-renumber-end-2
 slice_bounds-renumber-end-2 c =
-    front _ _ c.args.state_codes_lem.now c.wide-l.ensures c.requires.1.states
+    front _ _ c.args.state_codes.now c.wide-l.ensures c.requires.1.states
 
 pub slice_bounds-renumber-end-3 : goal.slice_bounds-renumber-end-3
 slice_bounds-renumber-end-3 c =
@@ -35,38 +35,38 @@ slice_bounds-renumber-end-6 c =
 
 pub shape_of-map : goal.shape_of-map
 shape_of-map c =
-    c.renumber.auto.1.1.1.1.1.1.1.0
+    c.renumber.auto.map
 
 pub shape_of-next_images : goal.shape_of-next_images
 shape_of-next_images c =
-    c.renumber.auto.1.1.1.1.1.1.1.1.0
+    c.renumber.auto.next_images
 
 pub shape_of-reset_images : goal.shape_of-reset_images
 shape_of-reset_images c =
-    c.renumber.auto.1.1.1.1.1.1.1.1.1.0
+    c.renumber.auto.reset_images
 
 pub shape_of-root_images : goal.shape_of-root_images
 shape_of-root_images c =
-    c.renumber.auto.1.1.1.1.1.1.1.1.1.1.0
+    c.renumber.auto.root_images
 
 pub shape_of-gates_out : goal.shape_of-gates_out
 shape_of-gates_out c =
-    c.renumber.auto.1.1.1.1.1.1.1.1.1.1.1.0
+    c.renumber.auto.gates_out
 
 pub shape_of-scratch : goal.shape_of-scratch
 shape_of-scratch c =
-    c.renumber.auto.1.1.1.1.1.1.1.1.1.1.1.1.0
+    c.renumber.auto.scratch
 
 pub returns : goal.returns
 returns c =
     let a = c.args in
     numbers a.read a.flags (record { nexts = a.nexts.now; resets = a.resets.now; roots = a.roots.now })
-    (record { inputs = a.input_codes_lem.now; states = a.state_codes_lem.now; triples = a.triples.now }) (record {
+    (record { inputs = a.input_codes.now; states = a.state_codes.now; triples = a.triples.now }) (record {
       map = a.map.now;
-      next_images = a.next-images.now;
-      reset_images = a.reset-images.now;
-      root_images = a.root-images.now;
-      gates_out = a.gates-out.now;
+      next_images = a.next_images.now;
+      reset_images = a.reset_images.now;
+      root_images = a.root_images.now;
+      gates_out = a.gates_out.now;
       scratch = a.scratch.now;
     }) _ _ _ _ _ _ c.record_of.ensures c.wide-i.ensures c.wide-l.ensures c.counted-g.ensures.same
     c.sum-r.ensures c.renumber.ensures

@@ -13,13 +13,13 @@ returns-then-is_short c =
     let a = c.args in
     let lent : Lists = record {
       file = record { nexts = a.nexts.now; resets = a.resets.now; gates = a.gates.now; sizes = a.sizes.now; roots = a.roots.now };
-      codes = record { inputs = a.input_codes_lem.now; states = a.state_codes_lem.now; triples = a.triples.now };
+      codes = record { inputs = a.input_codes.now; states = a.state_codes.now; triples = a.triples.now };
       images = record {
         map = a.map.now;
-        next_images = a.next-images.now;
-        reset_images = a.reset-images.now;
-        root_images = a.root-images.now;
-        gates_out = a.gates-out.now;
+        next_images = a.next_images.now;
+        reset_images = a.reset_images.now;
+        root_images = a.root_images.now;
+        gates_out = a.gates_out.now;
         scratch = a.scratch.now;
       };
       bytes = a.out.now;
@@ -32,66 +32,66 @@ put_order-requires c =
 
 pub shape_of-nexts : goal.shape_of-nexts
 shape_of-nexts c =
-    c.order-said.auto.1.1.0
+    c.order-said.auto.nexts
 
 pub shape_of-resets : goal.shape_of-resets
 shape_of-resets c =
-    c.order-said.auto.1.1.1.0
+    c.order-said.auto.resets
 
 pub shape_of-gates : goal.shape_of-gates
 shape_of-gates c =
-    c.order-said.auto.1.1.1.1.0
+    c.order-said.auto.gates
 
 pub shape_of-sizes : goal.shape_of-sizes
 shape_of-sizes c =
-    c.order-said.auto.1.1.1.1.1.0
+    c.order-said.auto.sizes
 
 pub shape_of-roots : goal.shape_of-roots
 shape_of-roots c =
-    c.order-said.auto.1.1.1.1.1.1.0
+    c.order-said.auto.roots
 
 pub shape_of-input_codes : goal.shape_of-input_codes
 shape_of-input_codes c =
-    c.order-said.auto.1.1.1.1.1.1.1.0
+    c.order-said.auto.input_codes
 
 pub shape_of-state_codes : goal.shape_of-state_codes
 shape_of-state_codes c =
-    c.order-said.auto.1.1.1.1.1.1.1.1.0
+    c.order-said.auto.state_codes
 
 pub shape_of-triples : goal.shape_of-triples
 shape_of-triples c =
-    c.order-said.auto.1.1.1.1.1.1.1.1.1.0
+    c.order-said.auto.triples
 
 pub shape_of-map : goal.shape_of-map
 shape_of-map c =
-    c.order-said.auto.1.1.1.1.1.1.1.1.1.1.0
+    c.order-said.auto.map
 
 pub shape_of-next_images : goal.shape_of-next_images
 shape_of-next_images c =
-    c.order-said.auto.1.1.1.1.1.1.1.1.1.1.1.0
+    c.order-said.auto.next_images
 
 pub shape_of-reset_images : goal.shape_of-reset_images
 shape_of-reset_images c =
-    c.order-said.auto.1.1.1.1.1.1.1.1.1.1.1.1.0
+    c.order-said.auto.reset_images
 
 pub shape_of-root_images : goal.shape_of-root_images
 shape_of-root_images c =
-    c.order-said.auto.1.1.1.1.1.1.1.1.1.1.1.1.1.0
+    c.order-said.auto.root_images
 
 pub shape_of-gates_out : goal.shape_of-gates_out
 shape_of-gates_out c =
-    c.order-said.auto.1.1.1.1.1.1.1.1.1.1.1.1.1.1.0
+    c.order-said.auto.gates_out
 
 pub shape_of-scratch : goal.shape_of-scratch
 shape_of-scratch c =
-    c.order-said.auto.1.1.1.1.1.1.1.1.1.1.1.1.1.1.1.0
+    c.order-said.auto.scratch
 
 pub shape_of-out : goal.shape_of-out
 shape_of-out c =
-    c.order-said.auto.1.1.1.1.1.1.1.1.1.1.1.1.1.1.1.1.0
+    c.order-said.auto.out
 
 pub shape_of-answer : goal.shape_of-answer
-shape_of-answer c = c.put_order.auto.1.0
+shape_of-answer c = c.put_order.auto.answer
 
 pub returns : goal.returns
 returns c =
@@ -99,13 +99,13 @@ returns c =
     let o = c.order-said in
     let lent : Lists = record {
       file = record { nexts = a.nexts.now; resets = a.resets.now; gates = a.gates.now; sizes = a.sizes.now; roots = a.roots.now };
-      codes = record { inputs = a.input_codes_lem.now; states = a.state_codes_lem.now; triples = a.triples.now };
+      codes = record { inputs = a.input_codes.now; states = a.state_codes.now; triples = a.triples.now };
       images = record {
         map = a.map.now;
-        next_images = a.next-images.now;
-        reset_images = a.reset-images.now;
-        root_images = a.root-images.now;
-        gates_out = a.gates-out.now;
+        next_images = a.next_images.now;
+        reset_images = a.reset_images.now;
+        root_images = a.root_images.now;
+        gates_out = a.gates_out.now;
         scratch = a.scratch.now;
       };
       bytes = a.out.now;

@@ -8,7 +8,7 @@ use Rattle.intake_words.proofs.put_order.Goals as goal
 
 pub shape_of-answer : goal.shape_of-answer
 shape_of-answer c =
-    c.put_end.auto.1.1.1.0 ∙ c.put_file.auto.1.0
+    c.put_end.auto.answer ∙ c.put_file.auto.answer
 
 pub returns : goal.returns
 returns c =

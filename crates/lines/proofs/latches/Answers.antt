@@ -14,5 +14,5 @@ pub returns-in-Broken : goal.returns-in-Broken
 returns-in-Broken c =
     latches_no (latches_at c.args.s.now c.args.limit c.args.first c.args.n c.args.at) _
     (latch_lists c.args.nexts.now c.args.resets.now) _ c.latches_into-end.ensures _ _ (latch_lists _ _)
-    c.in-Broken.is c.latches_into-end.auto.1.1.1.1.1.0 c.latches_into-end.auto.1.1.1.1.1.1.0
+    c.in-Broken.is c.latches_into-end.auto.nexts c.latches_into-end.auto.resets
     c.fill.ensures c.fill-in-Broken.ensures

@@ -14,4 +14,4 @@ pub returns-in-Not : goal.returns-in-Not
 returns-in-Not c =
     rooted_no (roots_at c.args.s.now c.args.h c.args.limit (length c.args.roots.now) c.args.at) _
     (roots_of c.args.sizes.now c.args.roots.now) _ c.roots_into-end.ensures _ _ (roots_of _ _) c.in-Not.is
-    c.roots_into-end.auto.1.1.1.1.0 c.roots_into-end.auto.1.1.1.1.1.0 c.fill.ensures c.fill-in-Not.ensures
+    c.roots_into-end.auto.sizes c.roots_into-end.auto.roots c.fill.ensures c.fill-in-Not.ensures

@@ -10,22 +10,22 @@ use Rattle.sheet.proofs.report.Goals as goal
 
 pub slice_bounds-report_codes-end : goal.slice_bounds-report_codes-end
 slice_bounds-report_codes-end c =
-    let read_header = c.read-reading.new.1.0 in
-    let read_codes = c.read-reading.new.1.1.0 in
+    let read_header = c.read-reading.new.header in
+    let read_codes = c.read-reading.new.codes in
     sym (sheet_got c.args.sheet.now (replicate {A = ℕ} 10 0) (read_header) c.all_codes-codes.result (read_codes) c.read-reading.result refl
     (sym c.all_codes-codes.ensures) c.read-reading.ensures c.in-Whole.is).taken.ten
 
 pub slice_bounds-report_codes-end-in-Whole : goal.slice_bounds-report_codes-end-in-Whole
 slice_bounds-report_codes-end-in-Whole c =
-    let read_header = c.read-reading.new.1.0 in
-    let read_codes = c.read-reading.new.1.1.0 in
+    let read_header = c.read-reading.new.header in
+    let read_codes = c.read-reading.new.codes in
     sym (sheet_got c.args.sheet.now (replicate {A = ℕ} 10 0) (read_header) c.all_codes-codes.result (read_codes) c.read-reading.result refl
     (sym c.all_codes-codes.ensures) c.read-reading.ensures c.in-Whole.is).room
 
 pub report_codes-requires : goal.report_codes-requires
 report_codes-requires c =
-    let read_header = c.read-reading.new.1.0 in
-    let read_codes = c.read-reading.new.1.1.0 in
+    let read_header = c.read-reading.new.header in
+    let read_codes = c.read-reading.new.codes in
     let a = c.args in (
       (sheet_got a.sheet.now (replicate {A = ℕ} 10 0) (read_header) c.all_codes-codes.result (read_codes) c.read-reading.result refl
           (sym c.all_codes-codes.ensures) c.read-reading.ensures c.in-Whole.is).taken,
@@ -35,8 +35,8 @@ report_codes-requires c =
 
 pub returns-in-Whole : goal.returns-in-Whole
 returns-in-Whole c =
-    let read_header = c.read-reading.new.1.0 in
-    let read_codes = c.read-reading.new.1.1.0 in
+    let read_header = c.read-reading.new.header in
+    let read_codes = c.read-reading.new.codes in
     let a = c.args in
     report_put a.sheet.now c.report_codes.ensures
     (whole_text a.sheet.now _ _ c.read-reading.result
@@ -47,5 +47,5 @@ returns-in-Whole c =
 pub returns-in-Faulty : goal.returns-in-Faulty
 returns-in-Faulty c =
     let a = c.args in
-    report_put a.sheet.now c.Put-refused.ensures
+    report_put a.sheet.now c.put_refused.ensures
     (faulty_text a.sheet.now c.read-reading.result _ _ _ c.read-reading.ensures.0 c.in-Faulty.is refl)

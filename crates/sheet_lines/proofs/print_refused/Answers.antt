@@ -8,5 +8,5 @@ use Rattle.sheet_lines.proofs.print_refused.Goals as goal
 
 pub returns : goal.returns
 returns c =
-    put_same c.Put-refused.ensures (refused_same c.args.why _ _ (c.wide.ensures ∙ c.number-number.ensures)
+    put_same c.put_refused.ensures (refused_same c.args.why _ _ (c.wide.ensures ∙ c.number-number.ensures)
     (c.wide-2.ensures ∙ c.code.ensures ∙ ap (λ (l : Lit). l.0) c.literal-l.ensures))

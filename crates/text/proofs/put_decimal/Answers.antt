@@ -26,20 +26,20 @@ digits_from-requires c =
 
 pub slice_bounds-row-end : goal.slice_bounds-row-end
 slice_bounds-row-end c =
-    let long : length c.digits_from.new.0 ≡ 20 = c.digits_from.auto.0 in
+    let long : length c.digits_from.new.out ≡ 20 = c.digits_from.auto.out in
     omega (arith, long, c.digit_count-n.ensures, digits_few c.args.v (omega arith))
 
 pub slice_bounds-put_bytes-end : goal.slice_bounds-put_bytes-end
 slice_bounds-put_bytes-end c =
-    let long : length c.digits_from.new.0 ≡ 20 = c.digits_from.auto.0 in
+    let long : length c.digits_from.new.out ≡ 20 = c.digits_from.auto.out in
     let few = digits_few c.args.v (omega arith) in
-    sym (length-take-le c.digit_count-n.result c.digits_from.new.0 (omega (arith, long, c.digit_count-n.ensures, few)))
+    sym (length-take-le c.digit_count-n.result c.digits_from.new.out (omega (arith, long, c.digit_count-n.ensures, few)))
 
 pub returns-then-out-at-2 : goal.returns-then-out-at-2
 returns-then-out-at-2 c =
     let n = c.digit_count-n.result in
     let few = digits_few c.args.v (omega arith) in
-    let digits : take n c.digits_from.new.0 ≡ digits_of c.args.v
+    let digits : take n c.digits_from.new.out ≡ digits_of c.args.v
     = ap (take n) c.digits_from.ensures
     ∙ put_all_front _ (digits_of c.args.v) n c.digit_count-n.ensures (omega (arith, c.digit_count-n.ensures, few)) in (
       c.put_bytes.ensures.0 ∙ ap (put_all c.args.out.now c.args.at) digits,

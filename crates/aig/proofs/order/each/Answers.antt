@@ -36,7 +36,7 @@ returns-in-Stopped c =
 
 pub overflow_add-i : goal.overflow_add-i
 overflow_add-i c =
-    record { fits = omega (arith, c.loop-i-test.taken, c.pre.1, c.good.0) }
+    record { fits = omega (arith, c.loop-i-test.taken, c.pre.1) }
 
 pub loop-i-smaller : goal.loop-i-smaller
 loop-i-smaller c =

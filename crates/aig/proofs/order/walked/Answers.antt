@@ -40,18 +40,18 @@ each-requires c =
 
 pub shape_of-map : goal.shape_of-map
 shape_of-map c =
-    let each_map_kept = c.each-end.auto.1.1.1.1.1.0 in
-    c.each.auto.1.1.1.1.1.0 ∙ c.each-end-2.auto.1.1.1.1.1.0 ∙ each_map_kept
+    let each_map_kept = c.each-end.auto.map in
+    c.each.auto.map ∙ c.each-end-2.auto.map ∙ each_map_kept
 
 pub shape_of-out : goal.shape_of-out
 shape_of-out c =
-    let each_out_kept = c.each-end.auto.1.1.1.1.1.1.0 in
-    c.each.auto.1.1.1.1.1.1.0 ∙ c.each-end-2.auto.1.1.1.1.1.1.0 ∙ each_out_kept
+    let each_out_kept = c.each-end.auto.out in
+    c.each.auto.out ∙ c.each-end-2.auto.out ∙ each_out_kept
 
 pub shape_of-scratch : goal.shape_of-scratch
 shape_of-scratch c =
-    let each_scratch_kept = c.each-end.auto.1.1.1.1.1.1.1.0 in
-    c.each.auto.1.1.1.1.1.1.1.0 ∙ c.each-end-2.auto.1.1.1.1.1.1.1.0 ∙ each_scratch_kept
+    let each_scratch_kept = c.each-end.auto.scratch in
+    c.each.auto.scratch ∙ c.each-end-2.auto.scratch ∙ each_scratch_kept
 
 pub returns : goal.returns
 returns c =

@@ -8,7 +8,7 @@ link-requires c =
     (p.0, p.1, p.2 c.if-shape.true)
 
 pub shape_of-scratch-then-shape : goal.shape_of-scratch-then-shape
-shape_of-scratch-then-shape c = c.link.auto.1.1.1.0
+shape_of-scratch-then-shape c = c.link.auto.scratch
 
 pub returns-then-shape : goal.returns-then-shape
 returns-then-shape c =

@@ -7,7 +7,7 @@ use Rattle.binary.proofs.put.put_gate.Goals as goal
 
 pub put_delta-requires : goal.put_delta-requires
 put_delta-requires c =
-    (omega (arith, c.put_delta-after.ensures.1, c.put_delta-after.auto.0, delta_few c.args.first c.requires.0), c.requires.1)
+    (omega (arith, c.put_delta-after.ensures.1, c.put_delta-after.auto.out, delta_few c.args.first c.requires.0), c.requires.1)
 
 pub returns-then-out-at-ge6 : goal.returns-then-out-at-ge6
 returns-then-out-at-ge6 c =

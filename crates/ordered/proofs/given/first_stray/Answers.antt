@@ -34,7 +34,7 @@ overflow_cast-t c = omega (arith, c.requires)
 pub returns-then-not-is_reset : goal.returns-then-not-is_reset
 returns-then-not-is_reset c =
     let a = c.args in
-    stray_here a.t a.resets.now _ c.loop-j-test.true _ c.is_reset.ensures _ (not-true _ c.if-not-is_reset.true)
+    stray_here a.t a.resets.now _ c.loop-j-test.true _ c.is_reset.ensures _ c.if-not-is_reset.true
     c.from_code.ensures ∙ ap found (sym c.loop-j.invariant.1)
 
 pub overflow_add-j : goal.overflow_add-j
@@ -44,7 +44,7 @@ pub loop-j-preserved : goal.loop-j-preserved
 loop-j-preserved c =
     let a = c.args in (
       omega arith,
-      c.loop-j.invariant.1 ∙ stray_on a.t a.resets.now _ c.loop-j-test.true _ c.is_reset.ensures (not-false _ c.if-not-is_reset.false),
+      c.loop-j.invariant.1 ∙ stray_on a.t a.resets.now _ c.loop-j-test.true _ c.is_reset.ensures c.if-not-is_reset.false,
     )
 
 pub returns : goal.returns

@@ -6,22 +6,22 @@ use Rattle.ordered.proofs.given.is_uneven.Goals as goal
 pub returns-then-sum-roots : goal.returns-then-sum-roots
 returns-then-sum-roots c =
     let a = c.args in
-    uneven_counts a.t1 a.roots a.sizes.now a.nexts a.resets a.words _ c.sum.ensures c.if-sum-roots.true
+    uneven_counts a.counts a.roots a.sizes.now a.nexts a.resets a.words _ c.sum.ensures c.if-sum-roots.true
 
 pub returns-then-sum_of-wide : goal.returns-then-sum_of-wide
 returns-then-sum_of-wide c =
     let a = c.args in
-    uneven_sizes a.t1 a.roots a.sizes.now a.nexts a.resets a.words _ c.sum.ensures c.if-sum-roots.false _ _ c.sum_of.ensures
+    uneven_sizes a.counts a.roots a.sizes.now a.nexts a.resets a.words _ c.sum.ensures c.if-sum-roots.false _ _ c.sum_of.ensures
     c.wide.ensures c.if-sum_of-wide.true
 
 pub returns-then-nexts-resets : goal.returns-then-nexts-resets
 returns-then-nexts-resets c =
     let a = c.args in
-    uneven_latches a.t1 a.roots a.sizes.now a.nexts a.resets a.words _ c.sum.ensures c.if-sum-roots.false _ _
+    uneven_latches a.counts a.roots a.sizes.now a.nexts a.resets a.words _ c.sum.ensures c.if-sum-roots.false _ _
     c.sum_of.ensures c.wide.ensures c.if-sum_of-wide.false c.if-nexts-resets.true
 
 pub returns : goal.returns
 returns c =
     let a = c.args in
-    uneven_words a.t1 a.roots a.sizes.now a.nexts a.resets a.words _ c.sum.ensures c.if-sum-roots.false _ _
+    uneven_words a.counts a.roots a.sizes.now a.nexts a.resets a.words _ c.sum.ensures c.if-sum-roots.false _ _
     c.sum_of.ensures c.wide.ensures c.if-sum_of-wide.false c.if-nexts-resets.false

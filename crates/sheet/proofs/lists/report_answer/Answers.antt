@@ -23,7 +23,7 @@ overflow_cast-input_count c =
 
 pub slice_bounds-print_ordered-end : goal.slice_bounds-print_ordered-end
 slice_bounds-print_ordered-end c =
-    let renumber_next_images_kept = c.renumber-answer.auto.1.1.1.1.1.1.1.1.0 in
+    let renumber_next_images_kept = c.renumber-answer.auto.next_images in
     omega (arith, renumber_next_images_kept, c.pre.1.next_images, c.pre.0.states, bounds c.pre.0.taken)
 
 pub slice_bounds-print_ordered-end-in-Renumbered : goal.slice_bounds-print_ordered-end-in-Renumbered
@@ -33,7 +33,7 @@ slice_bounds-print_ordered-end-in-Renumbered c =
 
 pub slice_bounds-print_ordered-end-in-Renumbered-2 : goal.slice_bounds-print_ordered-end-in-Renumbered-2
 slice_bounds-print_ordered-end-in-Renumbered-2 c =
-    let renumber_gates_out_kept = c.renumber-answer.auto.1.1.1.1.1.1.1.1.1.1.1.0 in
+    let renumber_gates_out_kept = c.renumber-answer.auto.gates_out in
     omega (
       arith,
       renumber_gates_out_kept,
@@ -44,7 +44,7 @@ slice_bounds-print_ordered-end-in-Renumbered-2 c =
 
 pub slice_bounds-print_ordered-end-in-Renumbered-3 : goal.slice_bounds-print_ordered-end-in-Renumbered-3
 slice_bounds-print_ordered-end-in-Renumbered-3 c =
-    let renumber_gates_out_kept = c.renumber-answer.auto.1.1.1.1.1.1.1.1.1.1.1.0 in
+    let renumber_gates_out_kept = c.renumber-answer.auto.gates_out in
     sym (length-take-le _ _ (omega (
       arith,
       renumber_gates_out_kept,

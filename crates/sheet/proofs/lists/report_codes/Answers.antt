@@ -34,14 +34,14 @@ slice_bounds-words-end c =
 
 pub slice_bounds-narrow-end-in-Nothing : goal.slice_bounds-narrow-end-in-Nothing
 slice_bounds-narrow-end-in-Nothing c =
-    sym (length-take-le c.code_count-count.result c.All-words.result
-    (omega (arith, c.code_count-count.ensures, codes_few c.requires.0, c.All-words.ensures)))
+    sym (length-take-le c.code_count-count.result c.all_words-words.result
+    (omega (arith, c.code_count-count.ensures, codes_few c.requires.0, c.all_words-words.ensures)))
 
 pub narrow-requires : goal.narrow-requires
 narrow-requires c =
     let a = c.args in (
-      length-take-le c.code_count-count.result c.All-words.result
-          (omega (arith, c.code_count-count.ensures, codes_few c.requires.0, c.All-words.ensures)) ∙ sym
+      length-take-le c.code_count-count.result c.all_words-words.result
+          (omega (arith, c.code_count-count.ensures, codes_few c.requires.0, c.all_words-words.ensures)) ∙ sym
           (codes_long a.header.now a.codes.now c.requires.0 c.requires.1 c.code_count-count.result
           c.code_count-count.ensures),
       narrow_words_lem a.header.now a.codes.now c.requires.0 c.requires.1
@@ -52,18 +52,18 @@ pub slice_bounds-words-end-in-Nothing : goal.slice_bounds-words-end-in-Nothing
 slice_bounds-words-end-in-Nothing c =
     let a = c.args in
     (words_front_lem a.header.now a.codes.now c.requires.0 c.requires.1 c.code_count-count.result
-    c.code_count-count.ensures c.narrow.new.1.0 _ c.narrow.ensures).room
+    c.code_count-count.ensures c.narrow.new.words _ c.narrow.ensures).room
 
 pub slice_bounds-report_words-end : goal.slice_bounds-report_words-end
 slice_bounds-report_words-end c =
-    let narrow_words = c.narrow.new.1.0 in
+    let narrow_words = c.narrow.new.words in
     let a = c.args in
     (words_front_lem a.header.now a.codes.now c.requires.0 c.requires.1 c.code_count-count.result
     c.code_count-count.ensures (narrow_words) _ c.narrow.ensures).count
 
 pub report_words-requires : goal.report_words-requires
 report_words-requires c =
-    let narrow_words = c.narrow.new.1.0 in
+    let narrow_words = c.narrow.new.words in
     let a = c.args in (
       c.requires.0,
       sym (words_front_lem a.header.now a.codes.now c.requires.0 c.requires.1 c.code_count-count.result
@@ -72,7 +72,7 @@ report_words-requires c =
 
 pub returns-in-Nothing : goal.returns-in-Nothing
 returns-in-Nothing c =
-    let narrow_words = c.narrow.new.1.0 in
+    let narrow_words = c.narrow.new.words in
     let a = c.args in
     put_same c.report_words.ensures (narrowed_text a.header.now a.codes.now c.requires.0 c.requires.1
     c.code_count-count.result c.code_count-count.ensures _
@@ -82,5 +82,5 @@ returns-in-Nothing c =
 pub returns-in-Over : goal.returns-in-Over
 returns-in-Over c =
     let a = c.args in
-    put_same c.Put-refused.ensures (over_refused a.header.now a.codes.now c.requires.0 c.requires.1
+    put_same c.put_refused.ensures (over_refused a.header.now a.codes.now c.requires.0 c.requires.1
     c.code_count-count.result c.code_count-count.ensures _ (sym c.in-Over.is ∙ c.first_over-offender.ensures))

@@ -66,25 +66,25 @@ slice_bounds-report_circuit-end c =
 
 pub slice_bounds-states-end-2 : goal.slice_bounds-states-end-2
 slice_bounds-states-end-2 c =
-    let split_states = c.split.new.1.0 in
+    let split_states = c.split.new.states in
     let a = c.args in
     (states_front a.header.now a.words.now c.requires.0 c.requires.1 (split_states) _ c.split.ensures.0).room
 
 pub slice_bounds-report_circuit-end-2 : goal.slice_bounds-report_circuit-end-2
 slice_bounds-report_circuit-end-2 c =
-    let split_states = c.split.new.1.0 in
+    let split_states = c.split.new.states in
     let a = c.args in
     (states_front a.header.now a.words.now c.requires.0 c.requires.1 (split_states) _ c.split.ensures.0).count
 
 pub slice_bounds-nexts-end-2 : goal.slice_bounds-nexts-end-2
 slice_bounds-nexts-end-2 c =
-    let split_nexts = c.split.new.1.1.0 in
+    let split_nexts = c.split.new.nexts in
     let a = c.args in
     (nexts_front a.header.now a.words.now c.requires.0 c.requires.1 (split_nexts) _ c.split.ensures.1).room
 
 pub slice_bounds-report_circuit-end-3 : goal.slice_bounds-report_circuit-end-3
 slice_bounds-report_circuit-end-3 c =
-    let split_nexts = c.split.new.1.1.0 in
+    let split_nexts = c.split.new.nexts in
     let a = c.args in
     (nexts_front a.header.now a.words.now c.requires.0 c.requires.1 (split_nexts) _ c.split.ensures.1).count
 
@@ -103,8 +103,8 @@ slice_bounds-report_circuit-count-2 c =
 
 pub report_circuit-requires : goal.report_circuit-requires
 report_circuit-requires c =
-    let split_states = c.split.new.1.0 in
-    let split_nexts = c.split.new.1.1.0 in
+    let split_states = c.split.new.states in
+    let split_nexts = c.split.new.nexts in
     let a = c.args in
     lists_shaped a.header.now a.words.now c.requires.0 c.requires.1 refl
     (states_front a.header.now a.words.now c.requires.0 c.requires.1 (split_states) _ c.split.ensures.0).same
@@ -114,8 +114,8 @@ report_circuit-requires c =
 
 pub returns : goal.returns
 returns c =
-    let split_states = c.split.new.1.0 in
-    let split_nexts = c.split.new.1.1.0 in
+    let split_states = c.split.new.states in
+    let split_nexts = c.split.new.nexts in
     let a = c.args in
     put_same c.report_circuit.ensures (ap (λ (C : Circuit). out_text C (renumber C))
     (lists-circuit_lem a.header.now a.words.now refl

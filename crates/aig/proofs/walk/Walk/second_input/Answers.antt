@@ -57,17 +57,17 @@ settle-requires c =
 
 pub shape_of-map : goal.shape_of-map
 shape_of-map c =
-    let settle_map_kept = c.settle.auto.1.1.1.1.0 in
+    let settle_map_kept = c.settle.auto.map in
     settle_map_kept
 
 pub shape_of-out : goal.shape_of-out
 shape_of-out c =
-    let settle_out_kept = c.settle.auto.1.1.1.1.1.0 in
+    let settle_out_kept = c.settle.auto.out in
     settle_out_kept
 
 pub shape_of-scratch : goal.shape_of-scratch
 shape_of-scratch c =
-    let settle_scratch_kept = c.settle.auto.1.1.1.1.1.1.0 in
+    let settle_scratch_kept = c.settle.auto.scratch in
     settle_scratch_kept
 
 pub returns : goal.returns
