@@ -9,8 +9,8 @@ returns c =
     let a = c.args in
     let said = c.expand-said in
     let given : Lists = record { inputs = a.input_codes.now; states = a.state_codes.now; triples = a.triples.now } in
-    let inputs_left = said.new.1.1.1.0 in
-    let states_left = said.new.1.1.1.1.0 in
-    let triples_left = said.new.1.1.1.1.1.0 in
+    let inputs_left = said.new.input_codes in
+    let states_left = said.new.state_codes in
+    let triples_left = said.new.triples in
     let left : Lists = record { inputs = inputs_left; states = states_left; triples = triples_left } in
     way_expanded a.inputs a.latches a.gates.now given (seen said.result left) _ said.ensures c.number.ensures

@@ -75,8 +75,8 @@ returns c =
     let q = c.record_of in
     let r = c.renumber-said in
     let left =
-    outcome_of r.result r.new.1.1.1.1.1.1.1.0 r.new.1.1.1.1.1.1.1.1.0 r.new.1.1.1.1.1.1.1.1.1.0
-    r.new.1.1.1.1.1.1.1.1.1.1.0 r.new.1.1.1.1.1.1.1.1.1.1.1.0 r.new.1.1.1.1.1.1.1.1.1.1.1.1.0 in
+    outcome_of r.result r.new.map r.new.next_images r.new.reset_images
+    r.new.root_images r.new.gates_out r.new.scratch in
     way_on a.counts.now a.flags (given (record_of a.top a.counts.now a.flags)) a.answer.now _
     (taken a.counts.now a.flags a.answer.now _ _ c.refused_first-first.ensures c.if-first-ne0.false) (given q.result)
     (ap given q.ensures) left r.ensures _ _ c.put_answer.ensures

@@ -21,11 +21,11 @@ returns c =
     let a = c.args in
     let lent = lists_of a.nexts.now a.resets.now a.gates.now a.sizes.now a.roots.now in
     let said = c.read-said in
-    let nexts_left = said.new.1.0 in
-    let resets_left = said.new.1.1.0 in
-    let gates_left = said.new.1.1.1.0 in
-    let sizes_left = said.new.1.1.1.1.0 in
-    let roots_left = said.new.1.1.1.1.1.0 in
+    let nexts_left = said.new.nexts in
+    let resets_left = said.new.resets in
+    let gates_left = said.new.gates in
+    let sizes_left = said.new.sizes in
+    let roots_left = said.new.roots in
     let left = lists_of nexts_left resets_left gates_left sizes_left roots_left in
     way_read a.bytes.now lent a.answer.now (sym c.is_short.ensures ∙ c.if-is_short.false) (seen said.result left) _ _ _
     said.ensures c.number.ensures c.top_of.ensures c.put_words.ensures

@@ -21,13 +21,13 @@ returns c =
     let a = c.args in
     let lent = lists_of a.inputs.now a.states.now a.nexts.now a.resets.now a.gates.now a.sizes.now a.roots.now in
     let said = c.read-said in
-    let inputs_left = said.new.1.0 in
-    let states_left = said.new.1.1.0 in
-    let nexts_left = said.new.1.1.1.0 in
-    let resets_left = said.new.1.1.1.1.0 in
-    let gates_left = said.new.1.1.1.1.1.0 in
-    let sizes_left = said.new.1.1.1.1.1.1.0 in
-    let roots_left = said.new.1.1.1.1.1.1.1.0 in
+    let inputs_left = said.new.inputs in
+    let states_left = said.new.states in
+    let nexts_left = said.new.nexts in
+    let resets_left = said.new.resets in
+    let gates_left = said.new.gates in
+    let sizes_left = said.new.sizes in
+    let roots_left = said.new.roots in
     let left = lists_of inputs_left states_left nexts_left resets_left gates_left sizes_left roots_left in
     text_read a.bytes.now lent a.answer.now (sym c.is_short.ensures ∙ c.if-is_short.false) (seen said.result left) _ _ _ _
     said.ensures c.number.ensures c.word.ensures.same c.file_read.ensures c.put_words.ensures

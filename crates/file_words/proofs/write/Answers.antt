@@ -30,7 +30,7 @@ returns c =
     let with : Shape → Words =
     λ (o : Shape). given o.inputs o.counts a.nexts.now a.resets.now a.gates.now a.sizes.now a.roots.now in
     let said = c.write-said in
-    let bytes_left = said.new.1.1.1.1.1.1.0 in
+    let bytes_left = said.new.out in
     way_written writing lent a.out.now a.answer.now _
     (taken a.counts.now a.answer.now _ _ c.refused_first-first.ensures c.if-first-ne0.false)
     (with c.shape_of-shape.result) (ap with c.shape_of-shape.ensures) (wrote said.result bytes_left) said.ensures _ _

@@ -111,10 +111,10 @@ returns c =
       bytes = a.out.now;
     } in
     let left : Lists = record {
-      file = record { nexts = o.new.1.1.0; resets = o.new.1.1.1.0; gates = o.new.1.1.1.1.0; sizes = o.new.1.1.1.1.1.0; roots = o.new.1.1.1.1.1.1.0 };
-      codes = record { inputs = o.new.1.1.1.1.1.1.1.0; states = o.new.1.1.1.1.1.1.1.1.0; triples = o.new.1.1.1.1.1.1.1.1.1.0 };
-      images = record { map = o.new.1.1.1.1.1.1.1.1.1.1.0; next_images = o.new.1.1.1.1.1.1.1.1.1.1.1.0; reset_images = o.new.1.1.1.1.1.1.1.1.1.1.1.1.0; root_images = o.new.1.1.1.1.1.1.1.1.1.1.1.1.1.0; gates_out = o.new.1.1.1.1.1.1.1.1.1.1.1.1.1.1.0; scratch = o.new.1.1.1.1.1.1.1.1.1.1.1.1.1.1.1.0 };
-      bytes = o.new.1.1.1.1.1.1.1.1.1.1.1.1.1.1.1.1.0;
+      file = record { nexts = o.new.nexts; resets = o.new.resets; gates = o.new.gates; sizes = o.new.sizes; roots = o.new.roots };
+      codes = record { inputs = o.new.input_codes; states = o.new.state_codes; triples = o.new.triples };
+      images = record { map = o.new.map; next_images = o.new.next_images; reset_images = o.new.reset_images; root_images = o.new.root_images; gates_out = o.new.gates_out; scratch = o.new.scratch };
+      bytes = o.new.out;
     } in
     way_ordered a.bytes.now a.flags lent a.answer.now (sym c.is_short.ensures ∙ c.if-is_short.false) (seen o.result left) _ _
     o.ensures c.put_order.ensures

@@ -36,11 +36,11 @@ returns-in-Stopped c =
 
 pub overflow_add-i : goal.overflow_add-i
 overflow_add-i c =
-    record { fits = omega (arith, c.loop-i-test.taken, c.pre.1) }
+    record { fits = omega (arith, c.loop-i-test.true, c.requires.1) }
 
 pub loop-i-smaller : goal.loop-i-smaller
 loop-i-smaller c =
-    omega (arith, c.loop-i-test.taken, c.pre.0)
+    omega (arith, c.loop-i-test.true, c.requires.0)
 
 pub loop-i-preserved : goal.loop-i-preserved
 loop-i-preserved c =

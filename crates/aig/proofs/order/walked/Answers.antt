@@ -1,13 +1,13 @@
 -- `order::walked`: outputs unless trimmed, next states and roots are walked as one list. Assumes nothing.
 use native.Mathlib.Omega.{arith}
 use mathlib.Core.Path.{sym, ◌∙◌}
-use mathlib.Core.Logic.{⊎_elim}
 use lib.Seq.{length-take-le}
 use Rattle.aig.proofs.InTurn.{no_outputs, all_outputs, outputs_can, nexts_can, roots_can, all_walked}
 use Rattle.aig.proofs.order.walked.Goals as goal
+use Rattle.aig.proofs.order.walked.Goals.{then-trim, else-trim}
 
 pub slice_bounds-each-end : goal.slice_bounds-each-end
-slice_bounds-each-end c = sym (length-take-le _ _ (⊎_elim (λ w. omega (arith, w.1)) (λ w. omega (arith, w.1)) c.if-trim.branch))
+slice_bounds-each-end c = sym (length-take-le _ _ (elim c.if-trim.branch [ then-trim w ↦ omega arith | else-trim w ↦ omega arith ]))
 
 pub each-end-requires : goal.each-end-requires
 each-end-requires c =
@@ -15,7 +15,7 @@ each-end-requires c =
       omega arith,
       omega arith,
       outputs_can a.trim a.nexts.now a.roots.now c.requires c.if-trim.words
-          (⊎_elim (λ w. no_outputs a.gates.now w.0.taken w.1) (λ w. all_outputs c.requires w.0.left w.1) c.if-trim.branch),
+          (elim c.if-trim.branch [ then-trim w ↦ no_outputs a.gates.now w.if-trim.true w.words-is | else-trim w ↦ all_outputs c.requires w.if-trim.false w.words-is ]),
     )
 
 pub each-end-requires-2 : goal.each-end-requires-2
@@ -24,7 +24,7 @@ each-end-requires-2 c =
       omega arith,
       omega arith,
       nexts_can a.trim a.nexts.now a.roots.now c.requires c.if-trim.words
-          (⊎_elim (λ w. no_outputs a.gates.now w.0.taken w.1) (λ w. all_outputs c.requires w.0.left w.1) c.if-trim.branch)
+          (elim c.if-trim.branch [ then-trim w ↦ no_outputs a.gates.now w.if-trim.true w.words-is | else-trim w ↦ all_outputs c.requires w.if-trim.false w.words-is ])
           c.each-end.result _ _ _ c.each-end.ensures,
     )
 
@@ -34,7 +34,7 @@ each-requires c =
       omega arith,
       omega arith,
       roots_can a.trim a.nexts.now a.roots.now c.requires c.if-trim.words
-          (⊎_elim (λ w. no_outputs a.gates.now w.0.taken w.1) (λ w. all_outputs c.requires w.0.left w.1) c.if-trim.branch)
+          (elim c.if-trim.branch [ then-trim w ↦ no_outputs a.gates.now w.if-trim.true w.words-is | else-trim w ↦ all_outputs c.requires w.if-trim.false w.words-is ])
           c.each-end.result _ _ _ c.each-end.ensures c.each-end-2.result _ _ _ c.each-end-2.ensures,
     )
 
@@ -57,6 +57,6 @@ pub returns : goal.returns
 returns c =
     let a = c.args in
     all_walked a.trim a.nexts.now a.roots.now c.requires c.if-trim.words
-    (⊎_elim (λ w. no_outputs a.gates.now w.0.taken w.1) (λ w. all_outputs c.requires w.0.left w.1) c.if-trim.branch)
+    (elim c.if-trim.branch [ then-trim w ↦ no_outputs a.gates.now w.if-trim.true w.words-is | else-trim w ↦ all_outputs c.requires w.if-trim.false w.words-is ])
     c.each-end.result _ _ _ c.each-end.ensures c.each-end-2.result _ _ _ c.each-end-2.ensures c.each.result _ _ _
     c.each.ensures

@@ -40,7 +40,7 @@ overflow_add-vars c = record { fits = omega (arith, c.wide-vars.ensures, c.index
 
 pub overflow_add-shape : goal.overflow_add-shape
 overflow_add-shape c =
-    record { fits = omega (arith, c.good.1.0.1) }
+    record { fits = omega arith }
 
 pub slice_bounds-walked-end : goal.slice_bounds-walked-end
 slice_bounds-walked-end c =
@@ -153,10 +153,10 @@ shape_of-map c =
 
 pub shape_of-gates_out : goal.shape_of-gates_out
 shape_of-gates_out c =
-    let prepare_gates_out = c.prepare-check.last.1.1.1.1.1.0 in
+    let prepare_gates_out = c.prepare-check.new.gates_out in
     let walked_out = c.walked.new.out in
     let walked_out_kept = c.walked.auto.out in
-    let prepare_gates_out_kept = c.prepare-check.kept.1.1.1.1.1.0 in
+    let prepare_gates_out_kept = c.prepare-check.auto.gates_out in
     whole (2 * (length c.args.gates.now / 3)) (prepare_gates_out) (walked_out) (walked_out_kept) ∙ prepare_gates_out_kept
 
 pub shape_of-scratch : goal.shape_of-scratch

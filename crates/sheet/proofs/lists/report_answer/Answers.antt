@@ -19,17 +19,17 @@ slice_bounds-renumber-end c =
 
 pub overflow_cast-input_count : goal.overflow_cast-input_count
 overflow_cast-input_count c =
-    omega (arith, c.pre.0.inputs, bounds c.pre.0.taken)
+    omega (arith, c.requires.0.inputs, bounds c.requires.0.taken)
 
 pub slice_bounds-print_ordered-end : goal.slice_bounds-print_ordered-end
 slice_bounds-print_ordered-end c =
     let renumber_next_images_kept = c.renumber-answer.auto.next_images in
-    omega (arith, renumber_next_images_kept, c.pre.1.next_images, c.pre.0.states, bounds c.pre.0.taken)
+    omega (arith, renumber_next_images_kept, c.requires.1.next_images, c.requires.0.states, bounds c.requires.0.taken)
 
 pub slice_bounds-print_ordered-end-in-Renumbered : goal.slice_bounds-print_ordered-end-in-Renumbered
 slice_bounds-print_ordered-end-in-Renumbered c =
-    let renumber_next_images_kept = c.renumber-answer.kept.1.1.1.1.1.1.1.1.0 in
-    sym (length-take-le _ _ (omega (arith, renumber_next_images_kept, c.pre.1.next_images, c.pre.0.states, bounds c.pre.0.taken)))
+    let renumber_next_images_kept = c.renumber-answer.auto.next_images in
+    sym (length-take-le _ _ (omega (arith, renumber_next_images_kept, c.requires.1.next_images, c.requires.0.states, bounds c.requires.0.taken)))
 
 pub slice_bounds-print_ordered-end-in-Renumbered-2 : goal.slice_bounds-print_ordered-end-in-Renumbered-2
 slice_bounds-print_ordered-end-in-Renumbered-2 c =
@@ -55,13 +55,13 @@ slice_bounds-print_ordered-end-in-Renumbered-3 c =
 
 pub slice_bounds-print_ordered-end-in-Renumbered-4 : goal.slice_bounds-print_ordered-end-in-Renumbered-4
 slice_bounds-print_ordered-end-in-Renumbered-4 c =
-    let renumber_root_images_kept = c.renumber-answer.kept.1.1.1.1.1.1.1.1.1.1.0 in
-    omega (arith, renumber_root_images_kept, c.pre.1.root_images, c.pre.0.roots, bounds c.pre.0.taken)
+    let renumber_root_images_kept = c.renumber-answer.auto.root_images in
+    omega (arith, renumber_root_images_kept, c.requires.1.root_images, c.requires.0.roots, bounds c.requires.0.taken)
 
 pub slice_bounds-print_ordered-end-in-Renumbered-5 : goal.slice_bounds-print_ordered-end-in-Renumbered-5
 slice_bounds-print_ordered-end-in-Renumbered-5 c =
-    let renumber_root_images_kept = c.renumber-answer.kept.1.1.1.1.1.1.1.1.1.1.0 in
-    sym (length-take-le _ _ (omega (arith, renumber_root_images_kept, c.pre.1.root_images, c.pre.0.roots, bounds c.pre.0.taken)))
+    let renumber_root_images_kept = c.renumber-answer.auto.root_images in
+    sym (length-take-le _ _ (omega (arith, renumber_root_images_kept, c.requires.1.root_images, c.requires.0.roots, bounds c.requires.0.taken)))
 
 pub returns-in-Renumbered : goal.returns-in-Renumbered
 returns-in-Renumbered c =

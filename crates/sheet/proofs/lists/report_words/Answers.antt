@@ -90,16 +90,16 @@ slice_bounds-report_circuit-end-3 c =
 
 pub offset_bounds-words-inputs_end : goal.offset_bounds-words-inputs_end
 offset_bounds-words-inputs_end c =
-    omega (arith, bounds c.pre.0)
+    omega (arith, bounds c.requires.0)
 
 pub offset_bounds-words-latches_end : goal.offset_bounds-words-latches_end
 offset_bounds-words-latches_end c =
-    omega (arith, bounds c.pre.0)
+    omega (arith, bounds c.requires.0)
 
 pub slice_bounds-report_circuit-count-2 : goal.slice_bounds-report_circuit-count-2
 slice_bounds-report_circuit-count-2 c =
     let a = c.args in
-    parts_end a.header.now a.words.now c.pre.0 c.pre.1
+    parts_end a.header.now a.words.now c.requires.0 c.requires.1
 
 pub report_circuit-requires : goal.report_circuit-requires
 report_circuit-requires c =

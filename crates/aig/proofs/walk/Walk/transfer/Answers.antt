@@ -44,7 +44,7 @@ push-requires c =
 
 pub deeper-requires : goal.deeper-requires
 deeper-requires c =
-    let p = c.pre in
+    let p = c.requires in
     omega (arith, transfer_depth p.1, (transfer_reads p.1).room.gates)
 
 pub first_of-requires : goal.first_of-requires
