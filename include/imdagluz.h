@@ -1,4 +1,4 @@
-/* Imdagluz for C. Link with libcapi.a (`rt staticlib capi` writes target/staticlib/libcapi.a, for x86-64 Linux). Of the C library it needs
+/* Imdagluz for C. Link with libcapi.a (`rt lib`, in crates/capi, writes crates/capi/out/libcapi.a, for x86-64 Linux). Of the C library it needs
  * memset and nothing else.
  *
  * Each function is proved to keep the promises written here, on every input that meets these two duties of the caller:
