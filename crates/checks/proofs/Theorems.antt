@@ -1,5 +1,5 @@
 -- The contracts of this crate allow one answer each. Assumes nothing.
-use mathlib.Core.Path.{◌≡◌, sym, ◌∙◌}
+use mathlib.Core.Path.{sym, ◌∙◌}
 use Rattle.promise.specs.Determined.{Determines}
 use Rattle.checks.proofs.sum.Kinds as sum-kinds
 use Rattle.checks.proofs.sum.Reads as sum-contract

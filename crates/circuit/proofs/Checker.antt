@@ -9,12 +9,12 @@ use mathlib.Core.List.{List}
 use native.Mathlib.Omega.{arith}
 use lib.Dec.{eqb}
 use lib.ListN.{length, get_or}
-use Rattle.lit.specs.Code.{var, is_odd, flipped}
+use Rattle.lit.specs.Code.{var, is_odd}
 use Rattle.circuit.specs.Graph.{In, Gate, out_var}
 use Rattle.circuit.specs.Map.{no_image}
 use Rattle.circuit.specs.Walk.{Net, source_count, Pair, first_code, folded}
 use Rattle.circuit.specs.Ordered.{no_pair, InOrder, flip_if}
-use Rattle.circuit.proofs.Tests.{le_or, Same, same, other, same_test}
+use Rattle.circuit.proofs.Tests.{le_or, Same, same, same_test}
 use Rattle.circuit.proofs.Meaning.{flip_if_twice, flip_if_false}
 use Rattle.circuit.proofs.Values.{val-zero, val-one, val_source, val-flipped, val_gate}
 use Rattle.circuit.proofs.Settle.{and_comm}

@@ -8,7 +8,7 @@ use mathlib.Core.List.{List, [], ◌∷◌, ◌++◌, map}
 use native.Mathlib.Omega.{arith}
 use borrow.Author.Tests.{le-leb}
 use lib.Dec.{eqb, leb}
-use lib.ListN.{length, get_or}
+use lib.ListN.{get_or}
 use Rattle.lit.specs.Code.{var}
 use Rattle.circuit.specs.Graph.{In, Distinct, Gate, out_var}
 use Rattle.circuit.specs.Circuit.{first_over, is_reset, first_stray, elem, first_again}

@@ -13,7 +13,6 @@ use mathlib.Core.Path.{◌≡◌, sym, ◌∙◌, subst⁻¹}
 use mathlib.Core.Logic.{◌↔◌}
 use mathlib.Core.Bool.{Bool, false}
 use mathlib.Core.Option.{some}
-use mathlib.Core.List.{List}
 use lib.ListN.{length, get_or}
 use Rattle.circuit.specs.declared.Summary.{Summary}
 use Rattle.circuit.specs.declared.Answer.TheVariants.{Renumbered}

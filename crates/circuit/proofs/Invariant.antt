@@ -14,7 +14,7 @@ use Rattle.lit.proofs.Flips.{flipped_twice, odd_false}
 use Rattle.circuit.specs.Graph.{In, Gate, Graph, out_var, DefinedOnce, Reach, here, Grounded}
 use Rattle.circuit.specs.Map.{no_image, store}
 use Rattle.circuit.specs.Walk.{Net, source_count, Pair, Work, first_code, next_code, folded_if, already, settle_as, settle_on, settle}
-use Rattle.circuit.specs.Ordered.{no_pair, InOrder, flip_if}
+use Rattle.circuit.specs.Ordered.{no_pair, flip_if}
 use Rattle.circuit.proofs.Tests.{le_or, Same, same, other, same_test}
 use Rattle.circuit.proofs.Map.{entry_same, entry_other, store_all, store_length, code_in_lem}
 use Rattle.circuit.proofs.Graph.{Grounded-gate, one_gate}
@@ -22,7 +22,7 @@ use Rattle.circuit.proofs.Meaning.{reads_like}
 use Rattle.circuit.proofs.Values.{val-flipped}
 use Rattle.circuit.proofs.Settle.{and_comm, Already, is_new, already_is, Placed, placed_old, placed_new}
 use Rattle.circuit.proofs.Settled.{settled_le, settled_more, settled_room}
-use Rattle.circuit.specs.Invariant.{like, Reads, by_gate, val, pair, Makes, Fresh, settled, Sized, BothMapped, larger_in, smaller_in, RuleFor, Unfolded, FromGate, Inv, entry, code_in}
+use Rattle.circuit.specs.Invariant.{like, Reads, by_gate, val, pair, Sized, BothMapped, larger_in, smaller_in, RuleFor, Unfolded, FromGate, Inv, entry, code_in}
 
 -- the work has grown: what had an image keeps it, and what is new is reached from u
 pub record Grown (G : Graph) (w w' : Work) (u : ℕ) : Type 0 where

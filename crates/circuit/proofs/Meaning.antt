@@ -1,14 +1,14 @@
 -- What a literal means, by its variable: an equivalent of `Means` that needs no rule for negation, since the sign is taken in at each rule. From it
 -- a literal of a circuit that defines no variable twice means at most one bit. Assumes nothing.
-use Prim.Native.Nat.{ℕ, ◌%◌, ◌<◌}
+use Prim.Native.Nat.{ℕ, ◌%◌}
 use mathlib.Core.Path.{◌≡◌, refl, sym, ◌∙◌, ap, ap₂, subst}
 use mathlib.Core.Logic.{◌⊎◌, inl, inr}
 use mathlib.Core.Bool.{Bool, true, false, not, ◌&&◌}
 use native.Mathlib.Omega.{arith}
-use lib.ListN.{length, get_or}
+use lib.ListN.{get_or}
 use Rattle.lit.specs.Code.{var, is_odd, flipped}
 use Rattle.lit.proofs.Flips.{flipped-var, parity, odd_true, odd_false}
-use Rattle.circuit.specs.Graph.{In, Gate, Graph, out_var, DefinedOnce, negated, Means, constant, source, gate, negation}
+use Rattle.circuit.specs.Graph.{Gate, Graph, DefinedOnce, negated, Means, constant, source, gate, negation}
 use Rattle.circuit.specs.Ordered.{flip_if}
 use Rattle.circuit.proofs.Lists.{In-getD, Distinct-place}
 use Rattle.circuit.proofs.Graph.{one_gate, source_no_gate, zero_no_gate, zero_no_source, sources_distinct}

@@ -1,22 +1,22 @@
 -- What resets change of renumbering: check 22 finds none exactly where every latch has its reset; with every reset 0 renumbering is what it was; and whatever
 -- they are, where they pass, they change nothing but the reset images. Assumes nothing.
-use Prim.Native.Nat.{ℕ, zero, suc, ◌+◌, ◌*◌, ◌≤◌}
+use Prim.Native.Nat.{ℕ, zero, suc, ◌+◌, ◌*◌}
 use mathlib.Core.Path.{◌≡◌, refl, sym, ◌∙◌, ap, ap₂}
-use mathlib.Core.Logic.{inl, inr, ◌↔◌}
+use mathlib.Core.Logic.{◌↔◌}
 use mathlib.Core.Bool.{Bool, true, false, cond}
 use mathlib.Core.Option.{Option, none, some}
 use mathlib.Core.List.{List, [], ◌∷◌, ◌++◌}
 use native.Mathlib.Omega.{arith}
 use borrow.Author.Tests.{le-leb}
 use lib.Dec.{leb}
-use lib.ListN.{length, replicate}
+use lib.ListN.{length}
 use Rattle.circuit.specs.declared.Refusal.TheVariants as R
 use Rattle.circuit.specs.declared.Answer.TheVariants.{Refused}
 use Rattle.lit.specs.declared.Lit.{Lit}
 use Rattle.circuit.specs.Walk.{Out, reached, stopped}
 use Rattle.circuit.specs.Circuit.{Circuit, gate_codes, latch_codes, codes, first_over, first_stray, walked, or_refuse, numbered, renumber}
 use Rattle.circuit.specs.Ordered.{carried_from, ordered_of}
-use Rattle.circuit.specs.Outcome.{Lent, Outcome, circuit_of, cleared, untouched, is_early, zeros, conclusion, after, outcome}
+use Rattle.circuit.specs.Outcome.{Lent, circuit_of, cleared, untouched, is_early, zeros, conclusion, after, outcome}
 use Rattle.circuit.specs.Claims.{AllReset, Passes, IsTrue}
 use Rattle.circuit.specs.Tested.{Tested}
 use Rattle.circuit.specs.Resets.{side_by_side, codes_before, renumber_before, with_resets, SameButResets}

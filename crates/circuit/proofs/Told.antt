@@ -1,7 +1,7 @@
 -- The demands leave nothing open but the numbering: two outcomes of one lending that meet them and give one answer are the same, cell by cell, if after a
 -- success the map's cells are the same. For a refusal says what each cell is; and after a success images, words and zeros are read off the map.
 -- Assumes nothing.
-use Prim.Native.Nat.{ℕ, zero, suc, ◌+◌, ◌*◌, ◌/◌, ◌%◌, ◌<◌, ◌≤◌, min, max}
+use Prim.Native.Nat.{ℕ, suc, ◌+◌, ◌*◌, ◌/◌, ◌%◌, ◌<◌, ◌≤◌, min, max}
 use mathlib.Core.Path.{◌≡◌, refl, sym, ◌∙◌, ap, ap₂, subst}
 use mathlib.Core.Logic.{◌⊎◌, inl, inr}
 use mathlib.Core.List.{List, [], ◌∷◌}
@@ -12,10 +12,10 @@ use Rattle.circuit.specs.declared.Refusal.{Refusal}
 use Rattle.circuit.specs.declared.Summary.{Summary}
 use Rattle.circuit.specs.declared.Answer.{Answer}
 use Rattle.circuit.specs.declared.Answer.TheVariants.{Renumbered, Refused}
-use Rattle.circuit.specs.Graph.{In, Gate, out_var}
+use Rattle.circuit.specs.Graph.{Gate}
 use Rattle.circuit.specs.Circuit.{Circuit}
 use Rattle.circuit.specs.Outcome.{Lent, Outcome, circuit_of, outcome_of, held}
-use Rattle.circuit.specs.Claims.{HasImage, Named, Folds, image_after, larger_after, smaller_after, Taken, Untaken, Stays, IsNew, Keeps, Filled, Early, Late}
+use Rattle.circuit.specs.Claims.{Folds, image_after, larger_after, smaller_after, Taken, Untaken, Stays, IsNew, Keeps, Filled, Early, Late}
 use Rattle.circuit.specs.Demands.{Demands, AfterSuccess}
 use Rattle.circuit.proofs.Tests.{lt_or}
 use Rattle.lit.proofs.Flips.{parity}

@@ -1,6 +1,6 @@
 -- Checks 1 to 4 and 22 as renumbering computes them: words that proofs hand on. That they say what `Passes` says is proofs/Demands.antt's `tests_exactly`. Assumes
 -- nothing.
-use Rattle.std.specs.Prelude.{ℕ, ◌+◌, ◌*◌, ◌≡◌, false}
+use Rattle.std.specs.Prelude.{◌+◌, ◌*◌, ◌≡◌, false}
 use Rattle.std.proofs.Math.Option.{none}
 use Rattle.circuit.specs.Circuit.{Circuit, codes, first_over, first_stray}
 use Rattle.circuit.specs.Outcome.{Lent, circuit_of, too_big, misshapen, too_short}

@@ -1,5 +1,5 @@
 -- What the two ways to end leave is what `ended` says. Assumes nothing.
-use Prim.Native.Nat.{ℕ, ◌+◌, ◌*◌, ◌/◌, ◌%◌, ◌^◌, ◌<◌}
+use Prim.Native.Nat.{ℕ, ◌+◌, ◌*◌, ◌/◌, ◌%◌, ◌^◌}
 use mathlib.Core.Path.{◌≡◌, refl, sym, ap, ap₂, ◌∙◌}
 use mathlib.Core.List.{List}
 use native.Mathlib.Omega.{arith}
@@ -10,11 +10,10 @@ use Rattle.circuit.specs.declared.Answer.{Answer}
 use Rattle.circuit.specs.declared.Answer.TheVariants.{Renumbered, Refused}
 use Rattle.circuit.specs.declared.Refusal.{Refusal}
 use Rattle.circuit.specs.Map.{no_image}
-use Rattle.circuit.specs.Outcome.{Lent, outcome_of, circuit_of, map_words, scratch_words, zeros, onto}
+use Rattle.circuit.specs.Outcome.{Lent, outcome_of, circuit_of, scratch_words, zeros, onto}
 use Rattle.circuit.proofs.Words.{gates_length}
 use Rattle.ending.specs.declared.Walked.{Walked}
 use Rattle.ending.specs.declared.Walked.TheVariants.{Reached, Stopped}
-use Rattle.ending.specs.declared.Fronts.{Fronts}
 use Rattle.ending.specs.Ending.{made_with, Finished, Cleared, ended}
 
 -- outcomes with the same answer and the same lists are the same

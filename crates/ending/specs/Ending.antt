@@ -1,8 +1,8 @@
 -- How renumbering ends, for lists of any length. Assumes nothing.
-use Rattle.std.specs.Prelude.{ℕ, ◌+◌, ◌*◌, ◌%◌, ◌^◌, ◌≡◌, List, length, replicate}
+use Rattle.std.specs.Prelude.{ℕ, ◌+◌, ◌%◌, ◌^◌, ◌≡◌, List, length, replicate}
 use Rattle.lit.specs.Code.{variable}
 use Rattle.circuit.specs.declared.Answer.{Answer}
-use Rattle.circuit.specs.declared.Answer.TheVariants.{Renumbered, Refused}
+use Rattle.circuit.specs.declared.Answer.TheVariants.{Renumbered}
 use Rattle.circuit.specs.Map.{no_image}
 use Rattle.circuit.specs.Ordered.{images_in}
 use Rattle.circuit.specs.Outcome.{Lent, Outcome, outcome_of, circuit_of, scratch_words, zeros, onto, cleared}

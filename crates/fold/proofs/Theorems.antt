@@ -1,5 +1,5 @@
 -- Any two answers that a contract of this crate allows for the same arguments are equal. Assumes nothing.
-use mathlib.Core.Path.{◌≡◌, sym, ◌∙◌}
+use mathlib.Core.Path.{sym, ◌∙◌}
 use Rattle.promise.specs.Determined.{Determines}
 use Rattle.fold.proofs.Pair.of.Kinds as of-kinds
 use Rattle.fold.proofs.Pair.of.Reads as of-contract

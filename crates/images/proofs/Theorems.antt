@@ -1,5 +1,5 @@
 -- Any two outcomes that a contract of this crate allows for the same arguments are equal, in each lent word. Assumes nothing.
-use mathlib.Core.Path.{◌≡◌, refl, sym, ◌∙◌}
+use mathlib.Core.Path.{refl, sym, ◌∙◌}
 use Rattle.promise.specs.Determined.{DeterminesCells}
 use Rattle.images.proofs.begin.Kinds as begin-kinds
 use Rattle.images.proofs.begin.Reads as begin-contract

@@ -1,5 +1,5 @@
 -- Laws of the map in the code's own terms: each return of the functions over the map cites one. Assumes nothing.
-use Prim.Native.Nat.{ℕ, ◌+◌, ◌-◌, ◌*◌, ◌<◌, ◌≤◌}
+use Prim.Native.Nat.{ℕ, ◌+◌, ◌*◌, ◌<◌, ◌≤◌}
 use mathlib.Core.Path.{◌≡◌, sym, ap, ◌∙◌}
 use mathlib.Core.List.{List, [], ◌∷◌, ◌++◌}
 use native.Mathlib.Omega.{arith}
@@ -11,7 +11,7 @@ use Rattle.lit.specs.declared.Lit.{Lit}
 use Rattle.circuit.specs.declared.Image.{Image}
 use Rattle.circuit.specs.declared.Image.TheVariants.{Absent, Code}
 use Rattle.circuit.specs.Map.{no_image, image_in, image_of, store, code_of}
-use Rattle.circuit.specs.Circuit.{store_from, start}
+use Rattle.circuit.specs.Circuit.{store_from}
 use Rattle.circuit.specs.Ordered.{images_in}
 use Rattle.circuit.proofs.Map.{no_image_lem, code_image}
 use Rattle.circuit.specs.Invariant.{entry}

@@ -1,7 +1,5 @@
 -- Any two outcomes that a contract of this crate allows for the same arguments are equal: the answer, and each lent word. Assumes nothing.
-use Prim.Native.Nat.{ℕ}
-use mathlib.Core.Path.{◌≡◌, refl, sym, ◌∙◌}
-use mathlib.Core.List.{List}
+use mathlib.Core.Path.{refl, sym, ◌∙◌}
 use Rattle.promise.specs.Determined.{Determines, DeterminesCells}
 use Rattle.lent.proofs.words.wide.Kinds as wide-kinds
 use Rattle.lent.proofs.words.wide.Reads as wide-contract

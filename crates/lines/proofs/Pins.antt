@@ -1,6 +1,6 @@
 -- What both forms of an AIGER file are made of, by example: each the smallest on which a neighbouring definition answers otherwise. The bytes are written
 -- above or beside each as text; where they begin with an x, the place asked for is 1. By computation. Assumes nothing.
-use Prim.Native.Nat.{ℕ, zero, suc, ◌+◌, ◌<◌}
+use Prim.Native.Nat.{ℕ, zero, suc, ◌+◌}
 use mathlib.Core.Path.{◌≡◌, refl}
 use mathlib.Core.Bool.{true, false}
 use mathlib.Core.List.{List, [], ◌∷◌}

@@ -1,14 +1,13 @@
 -- What a latch's reset may be: 0, 1 or its own literal. Refusal 22 is exactly the rest, and resets that are read have no stray among them. Assumes nothing.
 use Prim.Native.Nat.{ℕ, zero, suc, ◌+◌, ◌*◌, ◌≤◌, ◌<◌}
-use mathlib.Core.Path.{◌≡◌, refl, sym, ap, ◌∙◌, subst}
+use mathlib.Core.Path.{◌≡◌, refl, sym, ap, ◌∙◌}
 use mathlib.Core.Bool.{Bool, true, false, cond, ◌||◌}
-use mathlib.Core.Logic.{◌⊎◌, inl, inr, ◌↔◌}
-use mathlib.Core.List.{List, [], ◌∷◌}
+use mathlib.Core.Logic.{◌↔◌}
+use mathlib.Core.List.{List, ◌∷◌}
 use mathlib.Core.Option.{none, some}
 use native.Mathlib.Omega.{arith}
 use lib.Dec.{leb, eqb}
-use lib.ListN.{length}
-use borrow.Author.Tests.{le-leb, lt-leb, leb-true, leb-false, eq-eqb, ne_eqb, eqb-true}
+use borrow.Author.Tests.{leb-false, ne_eqb}
 use Rattle.circuit.specs.Circuit.{is_reset, first_stray}
 use Rattle.circuit.specs.Ordered.{count_from}
 use Rattle.circuit.specs.Claims.{IsReset}
@@ -17,7 +16,7 @@ use Rattle.token.specs.Answer.{header_field_at}
 use Rattle.token.specs.declared.Token.{Token}
 use Rattle.token.specs.declared.Token.TheVariants.{Value, Refused}
 use Rattle.lines.specs.declared.Fault.{Fault}
-use Rattle.lines.specs.declared.Fault.TheVariants.{Number, Missing, Reset}
+use Rattle.lines.specs.declared.Fault.TheVariants.{Missing, Reset}
 use Rattle.lines.specs.Reading.{Read, got, no, ◌▸◌, row_at}
 use Rattle.lines.specs.Lines.{is_byte, byte_at, space_at, newline_at, number_of, number_at, line_at}
 use Rattle.lines.specs.Lines.{LatchLine, latch_line, resets_of, reset_line_at, reset_at, latch_at, latches_at, word_of}

@@ -1,7 +1,7 @@
 -- What follows of the definitions of specs/Code.antt: each contract allows one answer, and halving undoes doubling. What a flip
 -- keeps and changes stands in proofs/Flips.antt. Assumes nothing.
 use Prim.Native.Nat.{ℕ, ◌*◌, ◌^◌, ◌<◌, ◌≤◌}
-use mathlib.Core.Path.{◌≡◌, refl, sym, ◌∙◌, ap}
+use mathlib.Core.Path.{◌≡◌, sym, ◌∙◌, ap}
 use mathlib.Core.Bool.{Bool, true, false, cond}
 use native.Mathlib.Omega.{arith}
 use lib.Dec.{ltb}

@@ -1,5 +1,5 @@
 -- The contracts of `number` and `literal` determine their answers. Assumes nothing.
-use mathlib.Core.Path.{◌≡◌, sym, ◌∙◌}
+use mathlib.Core.Path.{sym, ◌∙◌}
 use Rattle.promise.specs.Determined.{Determines}
 use Rattle.refusals.proofs.number.Kinds as number-kinds
 use Rattle.refusals.proofs.number.Reads as number-promise

@@ -1,13 +1,13 @@
 -- How a sheet is read: a test a return of the code, and what is known of a sheet that is read whole. Assumes nothing.
-use Prim.Native.Nat.{ℕ, ◌+◌, ◌≤◌, ◌<◌}
+use Prim.Native.Nat.{ℕ, ◌≤◌, ◌<◌}
 use mathlib.Core.Path.{◌≡◌, refl, sym, ap, subst, subst⁻¹, ◌∙◌}
 use mathlib.Core.Bool.{Bool, true, false, cond}
-use mathlib.Core.List.{List, [], ◌++◌, append-nil, append_assoc}
+use mathlib.Core.List.{List, [], ◌++◌, append_assoc}
 use native.Mathlib.Omega.{arith}
 use borrow.Author.Tests.{lt-ltb, le-ltb}
 use lib.Dec.{ltb}
 use lib.ListN.{length, take, drop, take-append-drop}
-use lib.Seq.{length-take-le, drop-append-le, drop-length}
+use lib.Seq.{length-take-le, drop-append-le}
 use Rattle.token.specs.Answer.{reason_number}
 use Rattle.token.specs.declared.Reason.{Reason}
 use Rattle.circuit.specs.Outcome.{onto}

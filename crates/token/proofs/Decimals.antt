@@ -12,7 +12,7 @@ use lib.Dec.{ltb, leb}
 use lib.ListN.{length, get_or, take, drop, length-drop}
 use lib.Seq.{take-suc, take-add, get_or-drop, drop-cons}
 use borrow.Author.Tests.{leb-true, leb-false, ltb-true, ltb-false, le-leb, lt-leb, lt-ltb, le-ltb, ne_eqb}
-use Rattle.token.specs.Format.{leading, is_digit, decimal_from, decimal_value}
+use Rattle.token.specs.Format.{is_digit, decimal_from, decimal_value}
 use Rattle.token.specs.Answer.{digits_at, fitting, uint_at}
 use Rattle.token.specs.declared.Reason.TheVariants.{NoDigit, LeadingZero, OverWidth}
 use Rattle.token.specs.declared.Token.{Token}

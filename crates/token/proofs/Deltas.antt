@@ -10,7 +10,7 @@ use lib.Dec.{leb, eqb}
 use lib.ListN.{length, take}
 use borrow.Author.Tests.{leb-true, leb-false, eqb-false, ne_eqb}
 use Rattle.token.specs.Format.{groups_value}
-use Rattle.token.specs.Answer.{go_on_at, binary_at, delta_at, less, pair_at, pair_of, pair_first, pair_second}
+use Rattle.token.specs.Answer.{go_on_at, binary_at, delta_at, less, pair_at, pair_first, pair_second}
 use Rattle.token.specs.declared.Reason.TheVariants.{Cut, TooLong, OverReference, ZeroDelta}
 use Rattle.token.specs.declared.Token.{Token}
 use Rattle.token.specs.declared.Token.TheVariants.{Value, Refused}

@@ -1,9 +1,9 @@
 -- The tokens of document 01, the paper's numbers, and the tokens that pin the definitions, by computation: each is one on which a neighbouring definition
 -- answers otherwise. Assumes nothing.
-use Prim.Native.Nat.{ℕ, zero, suc}
+use Prim.Native.Nat.{zero, suc}
 use mathlib.Core.Path.{◌≡◌, refl}
 use mathlib.Core.Bool.{true, false}
-use mathlib.Core.List.{List, [], ◌∷◌}
+use mathlib.Core.List.{[], ◌∷◌}
 use native.Mathlib.Omega.{arith}
 use Rattle.token.specs.Format.{Bytes, is_digit, goes_on, Grouped, final, group, digits_of, shortest}
 use Rattle.token.specs.Answer.{reason_number, token_number, pair_number, digits_at, uint_at, go_on_at, binary_at, less, delta_at, within, assigned, header_field_at, lit_at, symbol_index_at, pair_of, pair_second, pair_first, pair_at}

@@ -10,7 +10,7 @@ use lib.ListN.{length, get_or, take, drop}
 use lib.Seq.{get_or-drop}
 use borrow.Author.Tests.{le-leb, lt-leb, le-ltb, ltb-false, leb-false, eq-eqb, ne_eqb, eqb-true, eqb-false}
 use Rattle.token.specs.Format.{decimal_value, groups_value}
-use Rattle.token.specs.Answer.{digits_at, uint_of, uint_at, binary_of, binary_at, go_on_at, delta_at, less, within, header_field_at, lit_at, symbol_index_at, pair_at, pair_of, pair_first, pair_second}
+use Rattle.token.specs.Answer.{digits_at, uint_of, uint_at, binary_of, binary_at, go_on_at, delta_at, less, within, header_field_at, lit_at, symbol_index_at, pair_at, pair_first, pair_second}
 use Rattle.token.specs.declared.Reason.{Reason}
 use Rattle.token.specs.declared.Reason.TheVariants.{NoDigit, LeadingZero, OverWidth, OverLimit, AssignsZero, AssignsOdd, Cut, TooLong, OverReference, ZeroDelta}
 use Rattle.token.specs.declared.Token.{Token}

@@ -7,7 +7,7 @@ use Prim.Native.Nat.{ℕ, zero, suc, ◌+◌, ◌-◌, ◌*◌, ◌/◌, ◌%◌
 use native.Mathlib.Nat.{pow-suc}
 use native.Mathlib.Omega.{arith}
 use lib.Dec.{ltb, leb}
-use lib.ListN.{length, get_or, take, drop, length-append, length-take, length-drop}
+use lib.ListN.{length, take, drop, length-append, length-take, length-drop}
 use lib.Seq.{drop-append_seam, take-append-add, take_at, take-take, get_or-drop}
 use borrow.Author.Tests.{ltb-true, ltb-false, leb-true, leb-false, lt-leb, le-leb}
 use Rattle.token.specs.Format.{leading, goes_on, groups_value, groups_up_to, shortest, Grouped, final, group, Bytes}
@@ -15,7 +15,6 @@ use Rattle.token.specs.Answer.{go_on_at, binary_of, binary_at, delta_at, pair_at
 use Rattle.token.specs.declared.Token.TheVariants.{Value}
 use Rattle.token.specs.declared.PairToken.TheVariants.{Inputs}
 use Rattle.token.proofs.Groups.{eight_at, groups_lt}
-use Rattle.token.specs.Claims.{Paired}
 use Rattle.token.proofs.Deltas.{binary_read, binary_used, pair_of_lem}
 
 -- grouped bytes are read

@@ -1,14 +1,14 @@
 -- The theorems of the number tokens. What each rests on stands in the laws' files beside this one; the examples stand in Pins.antt. Assumes nothing.
-use mathlib.Core.Path.{◌≡◌, refl, sym, ◌∙◌}
+use mathlib.Core.Path.{◌≡◌, sym, ◌∙◌}
 use mathlib.Core.Bool.{Bool, true, false}
 use mathlib.Core.Logic.{◌↔◌}
-use mathlib.Core.List.{List, [], ◌∷◌, ◌++◌}
+use mathlib.Core.List.{List, ◌++◌}
 use Prim.Native.Nat.{ℕ, ◌+◌, ◌-◌, ◌%◌, ◌^◌, ◌≤◌, ◌<◌}
 use lib.ListN.{length, get_or, take, drop}
 use Rattle.token.specs.Format.{leading, is_digit, decimal_value, groups_value, Grouped, digits_of, shortest, Bytes}
-use Rattle.token.specs.Answer.{digits_at, uint_at, go_on_at, binary_at, delta_at, within, assigned, header_field_at, lit_at, symbol_index_at, pair_at, token_number, pair_number}
+use Rattle.token.specs.Answer.{digits_at, uint_at, binary_at, delta_at, header_field_at, lit_at, symbol_index_at, pair_at}
 use Rattle.token.specs.declared.Reason.{Reason}
-use Rattle.token.specs.declared.Reason.TheVariants.{NoDigit, LeadingZero, OverWidth, OverLimit, AssignsZero, AssignsOdd, Cut, OverReference, ZeroDelta}
+use Rattle.token.specs.declared.Reason.TheVariants.{LeadingZero, OverWidth, OverLimit, AssignsZero, AssignsOdd, ZeroDelta}
 use Rattle.token.specs.declared.Token.TheVariants.{Value, Refused}
 use Rattle.token.specs.declared.PairToken.TheVariants.{Inputs, PairRefused}
 use Rattle.promise.specs.Determined.{Determines}

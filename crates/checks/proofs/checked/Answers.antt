@@ -1,5 +1,4 @@
 -- `checked` meets its contract: checks 1 to 3 on lengths, then check 4 where they pass, then check 22. Assumes nothing.
-use borrow.Author.Rules.{rules}
 use Rattle.circuit.specs.Outcome.{lent_of}
 use Rattle.checks.proofs.Sizes.{fails_sized, shaped, fails_over, passes}
 use Rattle.checks.proofs.checked.Goals as goal

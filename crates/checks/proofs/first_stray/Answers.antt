@@ -2,11 +2,7 @@
 use native.Mathlib.Omega.{arith}
 use borrow.Author.Rules.{scaled_Fits}
 use Prim.Native.Nat.{zero-le}
-use borrow.Author.Tests.{not-true, not-false}
-use Prim.Native.Nat.{◌≤◌, ◌-◌}
-use mathlib.Core.Path.{◌≡◌, refl, sym, ap, ◌∙◌}
-use lib.ListN.{length, drop}
-use Rattle.circuit.specs.Circuit.{first_stray}
+use mathlib.Core.Path.{refl, sym, ap, ◌∙◌}
 use Rattle.checks.proofs.Offenders.{turn-fits, turn_within, turn_nearer, stray_here, stray_on, stray_short, stray_end}
 use Rattle.checks.specs.Checks.{found}
 use Rattle.checks.proofs.first_stray.Goals as goal

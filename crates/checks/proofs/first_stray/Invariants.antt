@@ -1,13 +1,8 @@
 -- `first_stray` meets its contract: no reset before latch i strays, so the first of what is left is the first of all. Assumes nothing.
-use borrow.Author.Rules.{scaled_Fits}
-use Prim.Native.Nat.{zero-le}
-use borrow.Author.Tests.{not-true, not-false}
 use Prim.Native.Nat.{◌≤◌, ◌-◌}
-use mathlib.Core.Path.{◌≡◌, refl, sym, ap, ◌∙◌}
+use mathlib.Core.Path.{◌≡◌}
 use lib.ListN.{length, drop}
 use Rattle.circuit.specs.Circuit.{first_stray}
-use Rattle.checks.proofs.Offenders.{turn-fits, turn_within, turn_nearer, stray_here, stray_on, stray_short, stray_end}
-use Rattle.checks.specs.Checks.{found}
 use Rattle.checks.proofs.first_stray.Given as goal
 
 abbrev pub invariant-loop-i : goal.invariant-loop-i

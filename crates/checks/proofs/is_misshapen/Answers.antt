@@ -1,5 +1,4 @@
 -- `is_misshapen` meets its contract: each test decides one part of the definition's disjunction. Assumes nothing.
-use borrow.Author.Rules.{rules}
 use Rattle.checks.proofs.Sizes.{shape_counts, shape_latches, shape_resets, shape_gates}
 use Rattle.checks.proofs.is_misshapen.Goals as goal
 

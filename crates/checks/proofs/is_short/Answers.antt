@@ -1,5 +1,4 @@
 -- `is_short` meets its contract: each test decides one part of the definition's disjunction. Assumes nothing.
-use borrow.Author.Rules.{rules}
 use native.Mathlib.Omega.{arith}
 use Rattle.checks.proofs.Sizes.{short_map, short_nexts_lem, short_resets_lem, short_roots_lem, short_gates_lem, short_scratch}
 use Rattle.checks.proofs.is_short.Goals as goal

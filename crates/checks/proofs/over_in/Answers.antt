@@ -2,10 +2,7 @@
 use native.Mathlib.Omega.{arith}
 use borrow.Author.Rules.{scaled_Fits}
 use Prim.Native.Nat.{zero-le}
-use Prim.Native.Nat.{◌≤◌, ◌-◌}
-use mathlib.Core.Path.{◌≡◌, refl, sym, ap, ◌∙◌}
-use lib.ListN.{length, drop}
-use Rattle.circuit.specs.Circuit.{first_over}
+use mathlib.Core.Path.{refl, sym, ap, ◌∙◌}
 use Rattle.checks.proofs.Offenders.{turn-fits, turn_within, turn_nearer, over_here, over_on, over_end}
 use Rattle.checks.specs.Checks.{found}
 use Rattle.checks.proofs.over_in.Goals as goal

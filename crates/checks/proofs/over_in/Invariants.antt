@@ -1,12 +1,8 @@
 -- `over_in` meets its contract: nothing before i is over the bound, so the first of what is left is the first of all. Assumes nothing.
-use borrow.Author.Rules.{scaled_Fits}
-use Prim.Native.Nat.{zero-le}
 use Prim.Native.Nat.{◌≤◌, ◌-◌}
-use mathlib.Core.Path.{◌≡◌, refl, sym, ap, ◌∙◌}
+use mathlib.Core.Path.{◌≡◌}
 use lib.ListN.{length, drop}
 use Rattle.circuit.specs.Circuit.{first_over}
-use Rattle.checks.proofs.Offenders.{turn-fits, turn_within, turn_nearer, over_here, over_on, over_end}
-use Rattle.checks.specs.Checks.{found}
 use Rattle.checks.proofs.over_in.Given as goal
 
 abbrev pub invariant-loop-i : goal.invariant-loop-i

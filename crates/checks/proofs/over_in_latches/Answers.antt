@@ -2,10 +2,7 @@
 use native.Mathlib.Omega.{arith}
 use borrow.Author.Rules.{scaled_Fits}
 use Prim.Native.Nat.{zero-le}
-use Prim.Native.Nat.{◌≤◌, ◌-◌}
-use mathlib.Core.Path.{◌≡◌, refl, sym, ap, ◌∙◌}
-use lib.ListN.{length, drop}
-use Rattle.circuit.specs.Circuit.{first_over, latch_codes}
+use mathlib.Core.Path.{refl, sym, ap, ◌∙◌}
 use Rattle.checks.proofs.Offenders.{turn-fits, turn_within, turn_nearer, latch_state, latch_next, latch_reset, latch_on, latch_short, latch_bare, latch_end}
 use Rattle.checks.specs.Checks.{found}
 use Rattle.checks.proofs.over_in_latches.Goals as goal

@@ -1,5 +1,4 @@
 -- `resets_checked` meets its contract: what was found is the first reset that strays. Assumes nothing.
-use borrow.Author.Rules.{rules}
 use Rattle.checks.proofs.Offenders.{strays, strays_not}
 use Rattle.checks.proofs.resets_checked.Goals as goal
 

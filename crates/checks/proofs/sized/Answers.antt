@@ -1,5 +1,4 @@
 -- `sized` meets its contract: the checks stand in their order, and each return is one of the definition's. Assumes nothing.
-use borrow.Author.Rules.{rules}
 use mathlib.Core.Path.{◌∙◌}
 use Rattle.checks.proofs.Sizes.{sizes_big, sizes_small, sizes_uneven, sizes_short, sizes_pass}
 use Rattle.checks.proofs.sized.Goals as goal

@@ -1,6 +1,5 @@
 -- `sum` meets its contract: five counts of 32 bits cannot overflow the sum. Assumes nothing.
 use native.Mathlib.Omega.{arith}
-use borrow.Author.Rules.{rules}
 use Rattle.checks.proofs.Sizes.{sums}
 use Rattle.checks.proofs.sum.Goals as goal
 

@@ -3,7 +3,6 @@ use mathlib.Core.List.{[], ◌∷◌, ◌++◌}
 use native.Mathlib.Omega.{arith}
 use lib.ListN.{length-set}
 use lib.Seq.{sets-eq}
-use borrow.Author.Rules.{rules}
 use Rattle.delta_bytes.specs.Delta.{low_bytes}
 use Rattle.delta_bytes.proofs.put_value.Goals as goal
 

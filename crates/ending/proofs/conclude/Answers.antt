@@ -1,5 +1,4 @@
 -- `conclude` meets its contract: each way to end leaves what the definition says (proofs/Ended.antt). Assumes nothing.
-use borrow.Author.Rules.{rules}
 use native.Mathlib.Omega.{arith}
 use mathlib.Core.Path.{◌∙◌}
 use Rattle.circuit.specs.Outcome.{lent_of}

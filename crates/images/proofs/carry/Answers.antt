@@ -1,5 +1,4 @@
 -- `carry` meets its contract: too many inputs or latches leave the list, and else the new literals fit words. Assumes nothing.
-use borrow.Author.Rules.{rules}
 use native.Mathlib.Omega.{arith}
 use mathlib.Core.Path.{◌∙◌}
 use Rattle.images.proofs.Few.{carry_many_inputs, carry_many, carry_few}

@@ -1,9 +1,7 @@
 -- `carry_from` meets its contract: after i turns the first i resets stand in the list, up to the last or to the list's end. Assumes nothing.
 use native.Mathlib.Omega.{arith}
-use Prim.Native.Nat.{◌≤◌, ◌-◌, ◌+◌, ◌*◌}
-use mathlib.Core.Path.{◌≡◌, refl, ◌∙◌}
-use mathlib.Core.List.{◌++◌}
-use lib.ListN.{length, take, drop, length-set}
+use mathlib.Core.Path.{refl, ◌∙◌}
+use lib.ListN.{length-set}
 use Rattle.circuit.specs.Ordered.{carried_from}
 use Rattle.circuit.proofs.Carried.{carried-length}
 use Rattle.lent.proofs.Rows.{onto_all, onto_full}

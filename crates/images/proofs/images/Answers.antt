@@ -1,9 +1,7 @@
 -- `images` meets its contract: after i turns the first i images stand in the list, up to the last or to the list's end. Assumes nothing.
 use native.Mathlib.Omega.{arith}
-use Prim.Native.Nat.{◌≤◌, ◌-◌, ◌+◌}
-use mathlib.Core.Path.{◌≡◌, refl, ◌∙◌}
-use mathlib.Core.List.{◌++◌}
-use lib.ListN.{length, take, drop, length-set}
+use mathlib.Core.Path.{refl, ◌∙◌}
+use lib.ListN.{length-set}
 use Rattle.circuit.specs.Ordered.{images_in}
 use Rattle.lent.proofs.Rows.{onto_all, onto_full}
 use Rattle.lent.proofs.Entries.{images_length, images_more}

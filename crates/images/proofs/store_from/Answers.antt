@@ -1,9 +1,6 @@
 -- `store_from` meets its contract: what is left to store falls by one literal a turn. Assumes nothing.
 use native.Mathlib.Omega.{arith}
-use Prim.Native.Nat.{◌≤◌, ◌-◌, ◌+◌, ◌*◌}
-use mathlib.Core.Path.{◌≡◌, refl, sym, ◌∙◌}
-use lib.ListN.{length, drop}
-use Rattle.circuit.specs.Circuit.{store_from}
+use mathlib.Core.Path.{refl, sym, ◌∙◌}
 use Rattle.lent.proofs.Entries.{store_from_on, store_from_end}
 use Rattle.images.proofs.store_from.Goals as goal
 

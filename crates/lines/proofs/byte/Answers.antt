@@ -1,7 +1,6 @@
 -- `lines::byte` meets its contract: its test is that of the definition. Assumes nothing.
 use Rattle.lines.proofs.Answers.{byte_inside, byte-is, byte_not}
 use Rattle.lines.specs.Promise.{ended}
-use borrow.Author.Rules.{rules}
 use mathlib.Core.Path.{sym, ap, ◌∙◌}
 use native.Mathlib.Omega.{arith}
 use Rattle.lines.proofs.byte.Goals as goal

@@ -1,6 +1,5 @@
 -- `lines::count` meets its contract: each return is a case of the definition. Assumes nothing.
 use Rattle.lines.proofs.Steps.{count-is, count_not}
-use borrow.Author.Rules.{rules}
 use mathlib.Core.Path.{sym, ◌∙◌}
 use Rattle.lines.proofs.count.Goals as goal
 

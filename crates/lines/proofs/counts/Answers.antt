@@ -2,7 +2,6 @@
 use Prim.Native.Nat.{◌-◌}
 use Rattle.lines.proofs.Heads.{counted_within}
 use Rattle.lines.proofs.Steps.{counts_m, counts_i, counts_l, counts-is}
-use borrow.Author.Rules.{rules}
 use mathlib.Core.Path.{sym, ◌∙◌}
 use native.Mathlib.Omega.{arith}
 use Rattle.lines.proofs.counts.Goals as goal

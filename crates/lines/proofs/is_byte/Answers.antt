@@ -1,6 +1,5 @@
 -- `lines::is_byte` meets its contract: a place past the end has no byte. Assumes nothing.
 use Rattle.lines.proofs.Answers.{byte_there, byte_past}
-use borrow.Author.Rules.{rules}
 use native.Mathlib.Omega.{arith}
 use Rattle.lines.proofs.is_byte.Goals as goal
 

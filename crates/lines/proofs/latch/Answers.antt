@@ -1,7 +1,6 @@
 -- `lines::latch` meets its contract: each return is a case of the definition. Assumes nothing.
 use mathlib.Core.Path.{sym, ◌∙◌}
 use Rattle.lines.proofs.Steps.{latch_is, latch_open, latch_not}
-use borrow.Author.Rules.{rules}
 use Rattle.lines.proofs.latch.Goals as goal
 
 pub returns-in-Is-rest : goal.returns-in-Is-rest

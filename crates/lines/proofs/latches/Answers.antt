@@ -2,7 +2,6 @@
 use Rattle.lines.specs.Lines.{latches_at}
 use Rattle.lines.specs.Promise.{latch_lists}
 use Rattle.lines.proofs.Sections.{latches_is, latches_no}
-use borrow.Author.Rules.{rules}
 use Rattle.lines.proofs.latches.Goals as goal
 
 pub returns-in-After : goal.returns-in-After

@@ -1,13 +1,11 @@
 -- `lines::latches_into` meets its contract: a turn of the loop stores one line more (`Latching`). Assumes nothing.
-use Prim.Native.Nat.{◌+◌, ◌-◌, ◌*◌}
 use mathlib.Core.Path.{sym, ◌∙◌}
 use native.Mathlib.Omega.{arith}
-use Rattle.lines.specs.Lines.{latch_at, latches_at}
+use Rattle.lines.specs.Lines.{latches_at}
 use Rattle.lines.specs.Promise.{latch_lists}
 use Rattle.lines.proofs.Answers.{latch_got, latch_no}
 use Rattle.lines.proofs.Resets.{own_serves}
-use Rattle.lines.proofs.Loops.{Latching, latching_none, latching_more, latching_broken, latching_all, latching_keeps}
-use borrow.Author.Rules.{rules}
+use Rattle.lines.proofs.Loops.{latching_none, latching_more, latching_broken, latching_all, latching_keeps}
 use Rattle.lines.proofs.latches_into.Goals as goal
 
 pub loop-i-init : goal.loop-i-init

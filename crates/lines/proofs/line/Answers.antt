@@ -1,6 +1,5 @@
 -- `lines::line` meets its contract: each return is a case of the definition. Assumes nothing.
 use Rattle.lines.proofs.Steps.{line-is, line_open, line_not}
-use borrow.Author.Rules.{rules}
 use mathlib.Core.Path.{sym, ◌∙◌}
 use Rattle.lines.proofs.line.Goals as goal
 

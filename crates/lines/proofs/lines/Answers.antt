@@ -1,9 +1,8 @@
 -- `lines::lines` meets its contract: a turn of the loop stores one line more (`Storing`). Assumes nothing.
-use Prim.Native.Nat.{◌+◌, ◌-◌}
+use Prim.Native.Nat.{◌+◌}
 use Rattle.lines.proofs.Answers.{is_got, not_no}
-use Rattle.lines.proofs.Rows.{Storing, storing_none, storing_more, storing_broken, storing_all, storing_keeps}
-use Rattle.lines.specs.Lines.{line_at, lines_at}
-use borrow.Author.Rules.{rules}
+use Rattle.lines.proofs.Rows.{storing_none, storing_more, storing_broken, storing_all, storing_keeps}
+use Rattle.lines.specs.Lines.{lines_at}
 use mathlib.Core.Path.{sym, ◌∙◌}
 use native.Mathlib.Omega.{arith}
 use Rattle.lines.proofs.lines.Goals as goal

@@ -1,6 +1,5 @@
 -- `lines::number` meets its contract: what is held to the limit fits a word, and its digits stand within the bytes. Assumes nothing.
 use Rattle.lines.proofs.Answers.{number_held, number_is, number_not}
-use borrow.Author.Rules.{rules}
 use mathlib.Core.Path.{sym, ◌∙◌}
 use native.Mathlib.Omega.{arith}
 use Rattle.lines.proofs.number.Goals as goal

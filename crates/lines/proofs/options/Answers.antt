@@ -1,8 +1,6 @@
 -- `lines::options` meets its contract: a turn of the loop reads one count more (`Choosing`). Assumes nothing.
-use Prim.Native.Nat.{◌-◌}
 use Rattle.lines.proofs.Answers.{is_got, not_no}
-use Rattle.lines.proofs.Loops.{Choosing, choosing_none, choosing_more, choosing_broken, choosing_ends, choosing_all}
-use borrow.Author.Rules.{rules}
+use Rattle.lines.proofs.Loops.{choosing_none, choosing_more, choosing_broken, choosing_ends, choosing_all}
 use mathlib.Core.Path.{sym, ◌∙◌}
 use native.Mathlib.Omega.{arith}
 use Rattle.lines.proofs.options.Goals as goal

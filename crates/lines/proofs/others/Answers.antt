@@ -1,7 +1,6 @@
 -- `lines::others` meets its contract: each return is a case of the definition; the row holds the counts that are there, and 0 for the others. Assumes nothing.
 use Rattle.lines.proofs.Heads.{others_counts, others_refused}
 use Rattle.lines.proofs.Steps.{others_o, others_a}
-use borrow.Author.Rules.{rules}
 use mathlib.Core.Path.{sym, ◌∙◌}
 use Rattle.lines.proofs.others.Goals as goal
 

@@ -3,7 +3,6 @@ use Prim.Native.Nat.{◌+◌, ◌*◌}
 use native.Mathlib.Omega.{arith}
 use borrow.Author.Tests.{le-leb, lt-leb}
 use Rattle.lines.specs.Lines.{word_of}
-use borrow.Author.Rules.{rules}
 use Rattle.lines.proofs.own_literal.Goals as goal
 
 pub returns-then-i-wide : goal.returns-then-i-wide

@@ -2,7 +2,6 @@
 use native.Mathlib.Omega.{arith}
 use mathlib.Core.Path.{refl}
 use Rattle.lines.proofs.Sections.{properties_many, properties_short, properties_broken, properties_is}
-use borrow.Author.Rules.{rules}
 use Rattle.lines.proofs.properties.Goals as goal
 
 pub returns-then-counted-count : goal.returns-then-counted-count

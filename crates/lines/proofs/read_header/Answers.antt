@@ -1,6 +1,5 @@
 -- `lines::read_header` meets its contract: each return is a case of the definition. Assumes nothing.
 use Rattle.lines.proofs.Steps.{header_is, header_not}
-use borrow.Author.Rules.{rules}
 use mathlib.Core.Path.{sym, ◌∙◌}
 use Rattle.lines.proofs.read_header.Goals as goal
 

@@ -3,7 +3,6 @@ use mathlib.Core.Path.{sym, ◌∙◌}
 use native.Mathlib.Omega.{arith}
 use Rattle.lines.proofs.Answers.{byte_inside}
 use Rattle.lines.proofs.Steps.{reset_is, reset_none, reset_open}
-use borrow.Author.Rules.{rules}
 use Rattle.lines.proofs.reset.Goals as goal
 
 pub overflow_add-at : goal.overflow_add-at

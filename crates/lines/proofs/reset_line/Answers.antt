@@ -1,7 +1,6 @@
 -- `lines::reset_line` meets its contract: each return is a case of the definition. Assumes nothing.
 use mathlib.Core.Path.{sym, ◌∙◌}
 use Rattle.lines.proofs.Steps.{field_is, field_open, field_stray, field_not}
-use borrow.Author.Rules.{rules}
 use Rattle.lines.proofs.reset_line.Goals as goal
 
 pub returns-in-After : goal.returns-in-After

@@ -2,7 +2,6 @@
 use lib.ListN.{length}
 use Rattle.lines.specs.Sections.{roots_of, roots_at}
 use Rattle.lines.proofs.Sections.{rooted_is, rooted_no}
-use borrow.Author.Rules.{rules}
 use Rattle.lines.proofs.roots.Goals as goal
 
 pub returns-in-Is : goal.returns-in-Is

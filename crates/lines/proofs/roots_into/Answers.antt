@@ -1,7 +1,6 @@
 -- `lines::roots_into` meets its contract: the first roots, and after them what the sizes announce. Assumes nothing.
 use lib.ListN.{length}
 use Rattle.lines.proofs.Sections.{roots_broken, roots-is}
-use borrow.Author.Rules.{rules}
 use Rattle.lines.proofs.roots_into.Goals as goal
 
 pub returns-in-After : goal.returns-in-After

@@ -2,7 +2,6 @@
 use lib.ListN.{length}
 use Rattle.lines.specs.Sections.{first_roots}
 use Rattle.lines.proofs.Sections.{sizes_broken, rest_broken, rest-is}
-use borrow.Author.Rules.{rules}
 use Rattle.lines.proofs.sizes_and.Goals as goal
 
 pub returns-in-After : goal.returns-in-After

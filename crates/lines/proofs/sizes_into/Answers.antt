@@ -1,10 +1,8 @@
 -- `lines::sizes_into` meets its contract: a turn of the loop stores one size more and adds it (`Sizing`). Assumes nothing.
-use Prim.Native.Nat.{◌-◌}
 use native.Mathlib.Omega.{arith}
 use mathlib.Core.Path.{sym, ◌∙◌}
-use borrow.Author.Rules.{rules}
 use Rattle.lines.proofs.Answers.{is_got, not_no}
-use Rattle.lines.proofs.Loops.{Sizing, sizing_none, sizing_more, sizing_broken, sizing_all, sizing_keeps}
+use Rattle.lines.proofs.Loops.{sizing_none, sizing_more, sizing_broken, sizing_all, sizing_keeps}
 use Rattle.lines.proofs.sizes_into.Goals as goal
 
 pub loop-i-init : goal.loop-i-init

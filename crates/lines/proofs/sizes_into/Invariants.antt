@@ -1,10 +1,6 @@
 -- `lines::sizes_into` meets its contract: a turn of the loop stores one size more and adds it (`Sizing`). Assumes nothing.
 use Prim.Native.Nat.{◌-◌}
-use native.Mathlib.Omega.{arith}
-use mathlib.Core.Path.{sym, ◌∙◌}
-use borrow.Author.Rules.{rules}
-use Rattle.lines.proofs.Answers.{is_got, not_no}
-use Rattle.lines.proofs.Loops.{Sizing, sizing_none, sizing_more, sizing_broken, sizing_all, sizing_keeps}
+use Rattle.lines.proofs.Loops.{Sizing}
 use Rattle.lines.proofs.sizes_into.Given as goal
 
 abbrev pub invariant-loop-i : goal.invariant-loop-i

@@ -1,6 +1,5 @@
 -- `lines::tag` meets its contract: its tests are the three of the definition. Assumes nothing.
 use Rattle.lines.proofs.Answers.{tag_is, tag_first, tag_second, tag_third}
-use borrow.Author.Rules.{rules}
 use mathlib.Core.Path.{sym, ◌∙◌}
 use Rattle.lines.proofs.tag.Goals as goal
 

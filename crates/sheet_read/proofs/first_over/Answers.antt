@@ -1,10 +1,7 @@
 -- `sheet_read::first_over` meets its contract: the numbers passed are within the bound, so the first over it is the first of those left. Assumes nothing.
-use borrow.Author.Rules.{rules}
-use Prim.Native.Nat.{◌-◌}
-use mathlib.Core.Path.{◌≡◌, refl, sym, ap, ◌∙◌}
+use mathlib.Core.Path.{refl, sym, ap, ◌∙◌}
 use native.Mathlib.Omega.{arith}
-use lib.ListN.{length, get_or, drop}
-use Rattle.circuit.specs.Circuit.{first_over}
+use lib.ListN.{get_or}
 use Rattle.sheet_read.specs.Promise.{offender}
 use Rattle.sheet_read.proofs.Headers.{over_here, over_on, over_end}
 use Rattle.sheet_read.proofs.first_over.Goals as goal

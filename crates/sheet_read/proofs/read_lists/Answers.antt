@@ -5,7 +5,6 @@ use lib.Seq.{length-take-le}
 use Rattle.sheet_read.specs.Promise.{Taken}
 use Rattle.sheet_read.proofs.Headers.{codes_few}
 use Rattle.sheet_read.proofs.Sheets.{lists_large, lists_flagged, lists_more, lists_whole, lists_broken}
-use borrow.Author.Rules.{rules}
 use Rattle.sheet_read.proofs.read_lists.Goals as goal
 
 pub returns-then-too_large : goal.returns-then-too_large

@@ -1,10 +1,5 @@
 -- `text::digit_count` meets its contract: a turn of the loop counts seven digits. Assumes nothing.
-use borrow.Author.Rules.{rules}
-use mathlib.Core.Path.{◌≡◌}
-use Prim.Native.Nat.{◌+◌, ◌≤◌}
 use native.Mathlib.Omega.{arith}
-use lib.ListN.{length}
-use Rattle.token.specs.Format.{digits_of}
 use Rattle.text.proofs.Digits.{digits_few, count_seven}
 use Rattle.text.proofs.digit_count.Goals as goal
 

@@ -1,10 +1,9 @@
 -- `text::digits_from` meets its contract: a turn of the loop puts the last digit of what is left (`Filling`), at a place that is there. Assumes nothing.
-use borrow.Author.Rules.{rules}
 use mathlib.Core.Path.{refl, ◌∙◌}
-use Prim.Native.Nat.{◌/◌, ◌<◌}
+use Prim.Native.Nat.{◌/◌}
 use native.Mathlib.Omega.{arith}
-use lib.ListN.{length, length-set}
-use Rattle.text.proofs.Digits.{digits_few, count_more, Filling, filling_all, filling_more, filling_last}
+use lib.ListN.{length-set}
+use Rattle.text.proofs.Digits.{digits_few, count_more, filling_all, filling_more, filling_last}
 use Rattle.text.proofs.digits_from.Goals as goal
 
 pub overflow_add-place : goal.overflow_add-place

@@ -1,10 +1,7 @@
 -- `text::digits_from` meets its contract: a turn of the loop puts the last digit of what is left (`Filling`), at a place that is there. Assumes nothing.
-use borrow.Author.Rules.{rules}
-use mathlib.Core.Path.{refl, ◌∙◌}
-use Prim.Native.Nat.{◌/◌, ◌<◌}
-use native.Mathlib.Omega.{arith}
-use lib.ListN.{length, length-set}
-use Rattle.text.proofs.Digits.{digits_few, count_more, Filling, filling_all, filling_more, filling_last}
+use Prim.Native.Nat.{◌<◌}
+use lib.ListN.{length}
+use Rattle.text.proofs.Digits.{Filling}
 use Rattle.text.proofs.digits_from.Given as goal
 
 abbrev pub invariant-loop-rest : goal.invariant-loop-rest

@@ -1,9 +1,7 @@
 -- `text::put_bytes` meets its contract: a turn of the loop puts one byte more at the place after the last (`Putting`). Assumes nothing.
-use borrow.Author.Rules.{rules}
 use Prim.Native.Nat.{◌-◌}
-use native.Mathlib.Omega.{arith}
 use lib.ListN.{length}
-use Rattle.text.proofs.Puts.{Putting, putting_none, putting_more, putting_all, putting_keeps}
+use Rattle.text.proofs.Puts.{Putting}
 use Rattle.text.proofs.put_bytes.Given as goal
 
 abbrev pub invariant-loop-i : goal.invariant-loop-i

@@ -11,7 +11,6 @@ use Rattle.token.specs.Format.{digits_of}
 use Rattle.text.specs.Put.{put_all}
 use Rattle.text.proofs.Puts.{put_all_past, put_all_front}
 use Rattle.text.proofs.Digits.{digits_few}
-use borrow.Author.Rules.{rules}
 use Rattle.text.proofs.put_decimal.Goals as goal
 
 pub returns-then-out-at : goal.returns-then-out-at

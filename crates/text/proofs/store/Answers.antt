@@ -1,5 +1,4 @@
 -- `text::store` meets its contract: a store past the end changes nothing. Assumes nothing.
-use borrow.Author.Rules.{rules}
 use mathlib.Core.Path.{sym}
 use native.Mathlib.Omega.{arith}
 use lib.Seq.{set_out}

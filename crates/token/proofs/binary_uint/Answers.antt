@@ -3,12 +3,10 @@
 -- is below 128 and the weight at most 128 ^ 7. The measure is the bytes left. Assumes nothing.
 use native.Mathlib.Omega.{arith}
 use Prim.Native.Nat.{zero-le}
-use Prim.Native.Nat.{◌+◌, ◌-◌, ◌≤◌}
 use native.Mathlib.Nat.{le_of_lt}
-use mathlib.Core.Path.{◌≡◌}
-use lib.ListN.{length, drop_of_length-le}
+use lib.ListN.{drop_of_length-le}
 use Rattle.token.specs.Answer.{go_on_at, binary_at}
-use Rattle.token.proofs.Groups.{GroupsPassed, turn_past, turn_there, turn_place, turn_within, turn_nearer, room_whole, groups_passed_none, groups_passed_count, groups_passed_weight, group_fits, group_added, group_low, groups_passed_cut, groups_passed_last, groups_passed_long, groups_passed_group}
+use Rattle.token.proofs.Groups.{turn_past, turn_there, turn_place, turn_within, turn_nearer, room_whole, groups_passed_none, groups_passed_count, groups_passed_weight, group_fits, group_added, group_low, groups_passed_cut, groups_passed_last, groups_passed_long, groups_passed_group}
 use Rattle.token.proofs.binary_uint.Goals as goal
 
 pub returns-then-s-at : goal.returns-then-s-at

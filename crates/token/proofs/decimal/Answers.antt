@@ -1,9 +1,7 @@
 -- `decimal` meets its contract. The invariant: n digits are passed, and write v, which fits 64 bits. A place with no digit ends the run. Digits only
 -- make a number larger, so one that no longer fits is refused at once. The measure is the bytes left. Assumes nothing.
 use native.Mathlib.Omega.{arith}
-use Prim.Native.Nat.{◌+◌, ◌-◌}
-use lib.ListN.{length}
-use Rattle.token.proofs.Decimals.{DigitsPassed, digits_passed_none, digits_passed_place, digits_passed_count, digits_passed_end, digit_there, digit_least, digit_nearer, digit_small, digit_tens, digit_added, digits_passed_digit, digits_passed_over, over_false, over_true}
+use Rattle.token.proofs.Decimals.{digits_passed_none, digits_passed_place, digits_passed_count, digits_passed_end, digit_there, digit_least, digit_nearer, digit_small, digit_tens, digit_added, digits_passed_digit, digits_passed_over, over_false, over_true}
 use Rattle.token.proofs.decimal.Goals as goal
 
 pub loop-d-init : goal.loop-d-init

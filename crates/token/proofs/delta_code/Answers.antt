@@ -1,5 +1,4 @@
 -- `delta_code` meets its contract: it is `binary_uint`, taken from the reference. Assumes nothing.
-use borrow.Author.Rules.{rules}
 use mathlib.Core.Path.{◌∙◌}
 use Rattle.token.specs.Answer.{delta_at}
 use Rattle.token.proofs.delta_code.Goals as goal

@@ -1,5 +1,4 @@
 -- `digit_at` meets its contract: a run of digits at a place begins with a digit there, and else is empty. Assumes nothing.
-use borrow.Author.Rules.{rules}
 use mathlib.Core.Path.{refl}
 use native.Mathlib.Omega.{arith}
 use Rattle.token.proofs.Decimals.{digits_end, digits_none, digit_under, digit_tested}

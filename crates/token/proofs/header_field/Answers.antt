@@ -1,5 +1,4 @@
 -- `header_field` meets its contract: it is `uint`, held to the limit. Assumes nothing.
-use borrow.Author.Rules.{rules}
 use mathlib.Core.Path.{◌∙◌}
 use Rattle.token.specs.Answer.{header_field_at}
 use Rattle.token.proofs.header_field.Goals as goal

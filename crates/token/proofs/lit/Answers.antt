@@ -1,5 +1,4 @@
 -- `lit` meets its contract: the steps on what `uint` reads are taken in the order of the definition. Assumes nothing.
-use borrow.Author.Rules.{rules}
 use mathlib.Core.Path.{◌∙◌}
 use Rattle.token.specs.Answer.{lit_at}
 use Rattle.token.proofs.lit.Goals as goal

@@ -1,5 +1,4 @@
 -- `symbol_index` meets its contract: it is `uint`, held to the limit. Assumes nothing.
-use borrow.Author.Rules.{rules}
 use mathlib.Core.Path.{◌∙◌}
 use Rattle.token.specs.Answer.{symbol_index_at}
 use Rattle.token.proofs.symbol_index.Goals as goal

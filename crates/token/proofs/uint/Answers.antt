@@ -1,6 +1,5 @@
 -- `uint` meets its contract: the first byte and, after a `0`, the second decide whether there is a number and whether it has a leading zero;
 -- any other run is `decimal`'s. Assumes nothing.
-use borrow.Author.Rules.{rules}
 use Prim.Native.Nat.{◌+◌}
 use mathlib.Core.Path.{sym, ◌∙◌}
 use native.Mathlib.Omega.{arith}

@@ -1,5 +1,4 @@
 -- `Pair::folded`: each return is a row, and no row that stands before it fits. Assumes nothing.
-use borrow.Author.Rules.{rules}
 use Rattle.fold.proofs.Folds.{zero_larger, zero_smaller, one_larger, both_equal, one_smaller, no_row}
 use borrow.Author.Tests.{eq-eqb, ne_eqb}
 use mathlib.Core.Logic.{⊎_elim}

@@ -1,5 +1,4 @@
 -- `Pair::folded_if`: the flag decides. Assumes nothing.
-use borrow.Author.Rules.{rules}
 use Rattle.fold.proofs.Pair.folded_if.Goals as goal
 
 pub returns-then-on : goal.returns-then-on

@@ -1,5 +1,4 @@
 -- `Pair::of`: of two codes the one that is not less is their maximum. Assumes nothing.
-use borrow.Author.Rules.{rules}
 use Rattle.fold.proofs.Folds.{first_larger, second_larger}
 use native.Mathlib.Omega.{arith}
 use Rattle.fold.proofs.Pair.of.Goals as goal

@@ -1,5 +1,4 @@
 -- `map::image` meets its contract: each return is one case of a lookup: past the map, an entry for no image, an entry. Assumes nothing.
-use borrow.Author.Rules.{rules}
 use mathlib.Core.Path.{ap, ◌∙◌}
 use Rattle.lit.specs.declared.Lit.{Lit}
 use Rattle.lit.specs.Code.{flipped_by}

@@ -1,5 +1,4 @@
 -- `map::insert` meets its contract: the entry is the image with the literal's sign taken out; past the map a store changes nothing. Assumes nothing.
-use borrow.Author.Rules.{rules}
 use mathlib.Core.Path.{ap, ◌∙◌}
 use Rattle.lit.specs.declared.Lit.{Lit}
 use Rattle.lent.proofs.Entries.{store-within, store_past}

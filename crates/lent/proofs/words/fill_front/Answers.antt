@@ -1,9 +1,7 @@
 -- `words::fill_front` meets its contract: the loop's turn stores one value more, up to the count or to the list's end. Assumes nothing.
 use native.Mathlib.Omega.{arith}
-use Prim.Native.Nat.{◌≤◌, ◌-◌, ◌+◌}
-use mathlib.Core.Path.{◌≡◌, refl, sym, ap, ◌∙◌}
-use mathlib.Core.List.{◌++◌}
-use lib.ListN.{length, replicate, take, drop, set, length-set, length-replicate, get_or-replicate}
+use mathlib.Core.Path.{refl, sym, ap, ◌∙◌}
+use lib.ListN.{replicate, set, length-set, length-replicate, get_or-replicate}
 use Rattle.lent.proofs.Rows.{onto_more, onto_all, onto_full}
 use Rattle.lent.proofs.words.fill_front.Goals as goal
 

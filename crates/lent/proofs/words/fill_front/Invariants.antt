@@ -1,10 +1,8 @@
 -- `words::fill_front` meets its contract: the loop's turn stores one value more, up to the count or to the list's end. Assumes nothing.
-use native.Mathlib.Omega.{arith}
-use Prim.Native.Nat.{◌≤◌, ◌-◌, ◌+◌}
-use mathlib.Core.Path.{◌≡◌, refl, sym, ap, ◌∙◌}
+use Prim.Native.Nat.{◌≤◌, ◌-◌}
+use mathlib.Core.Path.{◌≡◌}
 use mathlib.Core.List.{◌++◌}
-use lib.ListN.{length, replicate, take, drop, set, length-set, length-replicate, get_or-replicate}
-use Rattle.lent.proofs.Rows.{onto_more, onto_all, onto_full}
+use lib.ListN.{length, replicate, take, drop}
 use Rattle.lent.proofs.words.fill_front.Given as goal
 
 abbrev pub invariant-loop-i : goal.invariant-loop-i

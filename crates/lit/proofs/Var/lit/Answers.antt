@@ -1,7 +1,6 @@
 -- `Var::lit` meets its contract: an index below 2 ^ 31 is one whose double is below 2 ^ 32. Assumes nothing.
 use Prim.Native.Nat.{◌*◌}
 use native.Mathlib.Omega.{arith}
-use borrow.Author.Rules.{rules}
 use borrow.Author.Tests.{lt-ltb, le-ltb}
 use Rattle.lit.specs.Code.{doubled}
 use Rattle.lit.proofs.Var.lit.Goals as goal

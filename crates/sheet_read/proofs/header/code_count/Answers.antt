@@ -2,7 +2,6 @@
 use native.Mathlib.Omega.{arith}
 use Rattle.sheet_read.specs.Sheet.{code_count}
 use Rattle.sheet_read.proofs.Headers.{taken_small, bounds}
-use borrow.Author.Rules.{rules}
 use Rattle.sheet_read.proofs.header.code_count.Goals as goal
 
 pub overflow_mul-result : goal.overflow_mul-result

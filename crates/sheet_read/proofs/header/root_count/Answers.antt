@@ -1,7 +1,6 @@
 -- `header::root_count` meets its contract: each of the five counts is within its limit, so their sum is one of 64 bits. Assumes nothing.
 use native.Mathlib.Omega.{arith}
 use Rattle.sheet_read.proofs.Headers.{small_at, root_sum}
-use borrow.Author.Rules.{rules}
 use Rattle.sheet_read.proofs.header.root_count.Goals as goal
 
 pub overflow_add-result : goal.overflow_add-result
