@@ -1,8 +1,7 @@
 // The parts of a question's line: a word, numbers in decimal, and bytes in hexadecimal, a space between each two.
-ghost use Rattle.std.specs.Prelude.{◌≤◌};
+ghost use Rattle.std.specs.Prelude.{◌≤◌, length};
 ghost use Rattle.io.specs.Counts.{IsPrefixLen};
 
-use bytes::scan::find;
 use token::Token;
 
 // A number, and the place after it and a space.
@@ -10,6 +9,19 @@ use token::Token;
 pub struct Field {
     pub value: u64,
     pub next: usize,
+}
+
+// The first place of the byte between two places; the second of these where it does not stand there.
+pub fn find(s: &[u8], from: usize, to: usize, b: u8) -> usize
+    requires { (from ≤ to) × (to ≤ length s.now) }
+    ensures { (from ≤ result) × (result ≤ to) }
+{
+    for at in from..to {
+        if s[at] == b {
+            return at;
+        }
+    }
+    to
 }
 
 // The place after the line's first space.

@@ -2,8 +2,20 @@
 ghost use Rattle.std.specs.Prelude.{◌≤◌, length};
 ghost use Rattle.io.specs.Counts.{IsPrefixLen};
 
-use bytes::scan::find;
 use token::Token;
+
+// The first place of the byte between two places; the second of these where it does not stand there.
+pub fn find(s: &[u8], from: usize, to: usize, b: u8) -> usize
+    requires { (from ≤ to) × (to ≤ length s.now) }
+    ensures { (from ≤ result) × (result ≤ to) }
+{
+    for at in from..to {
+        if s[at] == b {
+            return at;
+        }
+    }
+    to
+}
 
 // Where the word after as many spaces begins; the end if there is none.
 pub fn word(s: &[u8], spaces: usize) -> usize

@@ -3,7 +3,7 @@
 ghost use Rattle.std.specs.Prelude.{◌≤◌, length};
 ghost use Rattle.io.specs.Counts.{IsPrefixLen};
 
-use bytes::scan::find;
+use crate::fields::find;
 use token::Token;
 
 // Whether the line has the letter.
