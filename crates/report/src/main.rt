@@ -4,7 +4,6 @@
 #![tactic(auto)]
 
 ghost use Rattle.std.specs.Prelude.{◌≡◌, ◌≤◌, length, take};
-ghost use Rattle.io.specs.Counts.{IsPrefixLen};
 ghost use Rattle.sheet.specs.Report.{report_of};
 ghost use Rattle.report.specs.Input.{Within};
 
@@ -53,7 +52,7 @@ fn read(mut from: Stdin, room: &mut [u8]) -> Input
 fn answer(sheet: &[u8], n: usize, out: &mut [u8]) -> usize
     requires { (n ≤ length sheet.now) × (131072 ≤ length out.old) }
     ensures out_after { take result out.new ≡ report_of (take n sheet.now) }
-    ensures prefix_len { IsPrefixLen result out.new }
+    ensures prefix_len { (result ≤ length out.new) × (result ≡ length (take result out.new)) }
 {
     sheet::report(&sheet[..n], out)
 }
