@@ -159,10 +159,8 @@ fn asked(to: &mut Output, name: &[u8], line: &[u8], map: &[u32]) {
 }
 
 fn images(to: &mut Output, map: &[u32], top: Var, codes: &[u32]) {
-    let mut i = 0;
-    while i < codes.len() {
-        image(to, aig::lookup(map, top, Lit::from_code(codes[i])));
-        i += 1;
+    for code in codes {
+        image(to, aig::lookup(map, top, Lit::from_code(*code)));
     }
 }
 
@@ -190,14 +188,11 @@ pub fn outcome(to: &mut Output, answer: Answer) {
 // The name, and the words up to the first 77.
 pub fn words(to: &mut Output, name: &[u8], list: &[u32]) {
     say::text(to, name);
-    let mut i = 0;
-    while i < list.len() {
-        let w = list[i];
-        if w == 77 {
+    for w in list {
+        if *w == 77 {
             return;
         }
-        word(to, w);
-        i += 1;
+        word(to, *w);
     }
 }
 

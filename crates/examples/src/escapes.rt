@@ -58,10 +58,8 @@ fn width(s: &[u8], at: usize) -> usize {
 
 // Prints the bytes as such a text: a letter, a digit, a mark or a space for itself, but for a quote and a backslash.
 pub fn show(to: &mut Output, s: &[u8]) {
-    let mut i = 0;
-    while i < s.len() {
-        shown(to, s[i]);
-        i += 1;
+    for b in s {
+        shown(to, *b);
     }
 }
 

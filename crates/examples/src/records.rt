@@ -109,10 +109,8 @@ fn words(to: &mut Output, name: &[u8], list: &[u32]) {
 // The name, and every word of the list.
 pub fn cells(to: &mut Output, name: &[u8], list: &[u32]) {
     say::text(to, name);
-    let mut i = 0;
-    while i < list.len() {
-        word(to, list[i]);
-        i += 1;
+    for w in list {
+        word(to, *w);
     }
 }
 
