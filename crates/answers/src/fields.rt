@@ -1,8 +1,6 @@
 // The parts of a question's line: a word, numbers in decimal, and bytes in hexadecimal, a space between each two.
-ghost use Rattle.std.specs.Prelude.{◌≤◌};
-ghost use Rattle.io.specs.Counts.{IsPrefixLen};
+ghost use Rattle.std.specs.Prelude.{◌≤◌, length};
 
-use bytes::scan::find;
 use token::Token;
 
 // A number, and the place after it and a space.
@@ -10,6 +8,19 @@ use token::Token;
 pub struct Field {
     pub value: u64,
     pub next: usize,
+}
+
+// The first place of the byte between two places; the second of these where it does not stand there.
+pub fn find(s: &[u8], from: usize, to: usize, b: u8) -> usize
+    requires { (from ≤ to) × (to ≤ length s.now) }
+    ensures { (from ≤ result) × (result ≤ to) }
+{
+    for at in from..to {
+        if s[at] == b {
+            return at;
+        }
+    }
+    to
 }
 
 // The place after the line's first space.
@@ -30,7 +41,7 @@ pub fn number(s: &[u8], at: usize) -> Field {
 
 // The numbers that stand behind a letter and a space, as many as there is room for, and how many they are: none where the line does not have the letter.
 pub fn list(s: &[u8], letter: u8, out: &mut [u32]) -> usize
-    ensures { IsPrefixLen result out.new }
+    ensures { result ≤ length out.new }
 {
     let mut n = 0;
     let mut at = sum(find(s, 0, s.len(), letter), 2);
@@ -48,7 +59,7 @@ pub fn list(s: &[u8], letter: u8, out: &mut [u32]) -> usize
 
 // The bytes whose hexadecimal digits stand from a place on, as many as there is room for, and how many they are.
 pub fn bytes(s: &[u8], from: usize, out: &mut [u8]) -> usize
-    ensures { IsPrefixLen result out.new }
+    ensures { result ≤ length out.new }
 {
     let mut n = 0;
     let mut at = from;

@@ -2,15 +2,16 @@
 // file that is taken the next states, resets, gates, justice sizes and roots. And about text files: the word `text` and the file's bytes, with the answer
 // `T`, the number and the eleven words of `file_words::read_text`, and the inputs and states before the other lists. The lists are long enough for every file
 // that is asked about; they hold a word that is no literal, so that a word written past those named would show.
+use crate::say::Output;
 use crate::{fields, say};
 
-pub fn answer(line: &[u8]) {
+pub fn answer(to: &mut Output, line: &[u8]) {
     let mut file = [0u8; 256];
     let n = fields::bytes(line, fields::after_word(line), &mut file);
-    read(&file[..n]);
+    read(to, &file[..n]);
 }
 
-fn read(file: &[u8]) {
+fn read(to: &mut Output, file: &[u8]) {
     let mut nexts = [4294967295u32; 16];
     let mut resets = [4294967295u32; 16];
     let mut gates = [4294967295u32; 128];
@@ -26,24 +27,24 @@ fn read(file: &[u8]) {
         &mut roots,
         &mut words,
     );
-    say::file(b"F ", number, &words);
+    say::file(to, b"F ", number, &words);
     if number == 0 {
-        say::front(&nexts);
-        say::front(&resets);
-        say::front(&gates);
-        say::front(&sizes);
-        say::front(&roots);
+        say::front(to, &nexts);
+        say::front(to, &resets);
+        say::front(to, &gates);
+        say::front(to, &sizes);
+        say::front(to, &roots);
     }
-    say::text(b"\n");
+    say::text(to, b"\n");
 }
 
-pub fn text(line: &[u8]) {
+pub fn text(to: &mut Output, line: &[u8]) {
     let mut file = [0u8; 256];
     let n = fields::bytes(line, fields::after_word(line), &mut file);
-    read_text(&file[..n]);
+    read_text(to, &file[..n]);
 }
 
-fn read_text(file: &[u8]) {
+fn read_text(to: &mut Output, file: &[u8]) {
     let mut inputs = [4294967295u32; 32];
     let mut states = [4294967295u32; 16];
     let mut nexts = [4294967295u32; 16];
@@ -63,15 +64,15 @@ fn read_text(file: &[u8]) {
         &mut roots,
         &mut words,
     );
-    say::file(b"T ", number, &words);
+    say::file(to, b"T ", number, &words);
     if number == 0 {
-        say::front(&inputs);
-        say::front(&states);
-        say::front(&nexts);
-        say::front(&resets);
-        say::front(&gates);
-        say::front(&sizes);
-        say::front(&roots);
+        say::front(to, &inputs);
+        say::front(to, &states);
+        say::front(to, &nexts);
+        say::front(to, &resets);
+        say::front(to, &gates);
+        say::front(to, &sizes);
+        say::front(to, &roots);
     }
-    say::text(b"\n");
+    say::text(to, b"\n");
 }

@@ -10,9 +10,12 @@ mod tokens;
 mod writings;
 
 ghost use Rattle.std.specs.Prelude.{◌≡◌, length};
+ghost use Rattle.std.specs.Io.{ReadsAtMost};
 
-use bytes::scan::find;
-use libc::STDIN_FILENO;
+use fields::find;
+use say::Output;
+use std::io;
+use std::io::{Read, Stdin};
 
 // Room for the questions.
 fn questions_room() -> [u8; 1048576]
@@ -21,46 +24,63 @@ fn questions_room() -> [u8; 1048576]
     [0; 1048576]
 }
 
-fn main() {
+fn main(rt: HostRuntime) -> io::Result<()> {
     let mut questions = questions_room();
-    let n = io::read_full(STDIN_FILENO, &mut questions);
-    lines(&questions[..n]);
+    let n = read(rt.stdin(), &mut questions)?;
+    let mut to = Output::new(rt.stdout());
+    lines(&mut to, &questions[..n]);
+    to.end()
+}
+
+// Reads until the room is full or the input ends, and answers how many bytes stand at the front of the room.
+fn read(mut from: Stdin, room: &mut [u8]) -> io::Result<usize>
+    ensures { ReadsAtMost result room.new }
+{
+    let mut done: usize = 0;
+    while done < room.len() {
+        let more = from.read(&mut room[done..])?;
+        if more == 0 {
+            return Ok(done);
+        }
+        done += more;
+    }
+    Ok(done)
 }
 
 // Each line but its newline, in turn.
-fn lines(s: &[u8]) {
+fn lines(to: &mut Output, s: &[u8]) {
     let mut at = 0;
     while at < s.len() {
         let end = find(s, at, s.len(), b'\n');
-        answer(&s[at..end]);
+        answer(to, &s[at..end]);
         at = end + 1;
     }
 }
 
 // The first letter tells a file, a text, a circuit that is written and a file that is written again, and the second a sheet, from the tokens.
-fn answer(line: &[u8]) {
+fn answer(to: &mut Output, line: &[u8]) {
     match fields::byte(line, 0) {
-        b'f' => files::answer(line),
-        b't' => of_text(line),
-        b'w' => writings::answer(line, false),
-        b'a' => writings::again(line),
-        _ => other(line),
+        b'f' => files::answer(to, line),
+        b't' => of_text(to, line),
+        b'w' => writings::answer(to, line, false),
+        b'a' => writings::again(to, line),
+        _ => other(to, line),
     }
 }
 
 // `textwrite` has a letter where `text` ends.
-fn of_text(line: &[u8]) {
+fn of_text(to: &mut Output, line: &[u8]) {
     if fields::byte(line, 4) == b'w' {
-        writings::answer(line, true);
+        writings::answer(to, line, true);
     } else {
-        files::text(line);
+        files::text(to, line);
     }
 }
 
-fn other(line: &[u8]) {
+fn other(to: &mut Output, line: &[u8]) {
     if fields::byte(line, 1) == b'h' {
-        sheets::answer(line);
+        sheets::answer(to, line);
     } else {
-        tokens::answer(line);
+        tokens::answer(to, line);
     }
 }

@@ -1,114 +1,135 @@
 // Answers on standard output: `V value used`, `P first second used`, `R number place`, `F number words` and `T number words`, with a file's lists,
 // `W number words bytes`; and any text.
-use libc::STDOUT_FILENO;
+use std::io;
+use std::io::Stdout;
 use token::{PairToken, Reason, Token};
 
-pub fn token(t: Token) {
-    match t {
-        Token::Value { value, used } => {
-            text(b"V ");
-            number(value);
-            last(used as u64);
+// Standard output, and what writing came to so far: after a write that failed nothing more is written.
+#[derive(Drop)]
+pub struct Output {
+    stdout: Stdout,
+    written: io::Result<()>,
+}
+
+impl Output {
+    pub fn new(stdout: Stdout) -> Output {
+        Output {
+            stdout,
+            written: Ok(()),
         }
-        Token::Refused { why, place } => refused(why, place),
+    }
+
+    // Whether all was written.
+    pub fn end(self) -> io::Result<()> {
+        self.written
     }
 }
 
-pub fn pair(t: PairToken) {
+pub fn token(to: &mut Output, t: Token) {
+    match t {
+        Token::Value { value, used } => {
+            text(to, b"V ");
+            number(to, value);
+            last(to, used as u64);
+        }
+        Token::Refused { why, place } => refused(to, why, place),
+    }
+}
+
+pub fn pair(to: &mut Output, t: PairToken) {
     match t {
         PairToken::Inputs {
             first,
             second,
             used,
         } => {
-            text(b"P ");
-            number(first);
-            text(b" ");
-            number(second);
-            last(used as u64);
+            text(to, b"P ");
+            number(to, first);
+            text(to, b" ");
+            number(to, second);
+            last(to, used as u64);
         }
-        PairToken::PairRefused { why, place } => refused(why, place),
+        PairToken::PairRefused { why, place } => refused(to, why, place),
     }
 }
 
-fn refused(why: Reason, place: usize) {
-    refusal(token::number(why) as u64, place as u64);
+fn refused(to: &mut Output, why: Reason, place: usize) {
+    refusal(to, token::number(why) as u64, place as u64);
 }
 
-pub fn refusal(n: u64, place: u64) {
-    text(b"R ");
-    number(n);
-    last(place);
+pub fn refusal(to: &mut Output, n: u64, place: u64) {
+    text(to, b"R ");
+    number(to, n);
+    last(to, place);
 }
 
 // The number and the words of what is written.
-pub fn written(n: u32, words: [u64; 2]) {
-    text(b"W");
-    after(n as u64);
-    after(words[0]);
-    after(words[1]);
+pub fn written(to: &mut Output, n: u32, words: [u64; 2]) {
+    text(to, b"W");
+    after(to, n as u64);
+    after(to, words[0]);
+    after(to, words[1]);
 }
 
 // A space and two hexadecimal digits for each byte; `-` where there is none.
-pub fn hex(s: &[u8]) {
-    text(b" ");
+pub fn hex(to: &mut Output, s: &[u8]) {
+    text(to, b" ");
     if s.len() == 0 {
-        text(b"-");
+        text(to, b"-");
     }
-    let mut i = 0;
-    while i < s.len() {
-        digits(s[i]);
-        i += 1;
+    for b in s {
+        digits(to, *b);
     }
 }
 
-fn digits(b: u8) {
-    io::print_hex(STDOUT_FILENO, b as u64, 2);
+fn digits(to: &mut Output, b: u8) {
+    if to.written.is_ok() {
+        to.written = print!(to.stdout; "{b:02x}");
+    }
 }
 
 // A letter and a space, and a file's number and words.
-pub fn file(letter: &[u8], n: u32, words: &[u64]) {
-    text(letter);
-    number(n as u64);
-    let mut i = 0;
-    while i < words.len() {
-        after(words[i]);
-        i += 1;
+pub fn file(to: &mut Output, letter: &[u8], n: u32, words: &[u64]) {
+    text(to, letter);
+    number(to, n as u64);
+    for w in words {
+        after(to, *w);
     }
 }
 
 // A list's words up to the first that is no literal.
-pub fn front(list: &[u32]) {
-    let mut i = 0;
-    while i < list.len() {
-        let w = list[i];
-        if w == 4294967295 {
+pub fn front(to: &mut Output, list: &[u32]) {
+    for w in list {
+        if *w == 4294967295 {
             return;
         }
-        word(w);
-        i += 1;
+        word(to, *w);
     }
 }
 
-fn word(w: u32) {
-    after(w as u64);
+fn word(to: &mut Output, w: u32) {
+    after(to, w as u64);
 }
 
-fn last(n: u64) {
-    after(n);
-    text(b"\n");
+fn last(to: &mut Output, n: u64) {
+    after(to, n);
+    text(to, b"\n");
 }
 
 // A space and a number.
-fn after(n: u64) {
-    text(b" ");
-    number(n);
+fn after(to: &mut Output, n: u64) {
+    text(to, b" ");
+    number(to, n);
 }
 
-fn number(n: u64) {
-    io::print_decimal(STDOUT_FILENO, n);
+fn number(to: &mut Output, n: u64) {
+    if to.written.is_ok() {
+        to.written = to.stdout.print(n);
+    }
 }
 
-pub fn text(s: &[u8]) {
-    io::write_all(STDOUT_FILENO, s);
+pub fn text(to: &mut Output, s: &[u8]) {
+    if to.written.is_ok() {
+        to.written = to.stdout.write_all(s);
+    }
 }

@@ -2,26 +2,33 @@
 // and roots; `textwrite` and the same, for a text; or `again` and the bytes of a binary file, which is read and written into as many bytes. The answer is `W`, the
 // number and the two words of `file_words::write` or `file_words::write_text`, and every lent byte, which is 165 where nothing is written. A file that is
 // refused is answered `R`, the number and the place.
-ghost use Rattle.std.specs.Prelude.{◌<◌};
-ghost use Rattle.io.specs.Counts.{IsPrefixLen};
+ghost use Rattle.std.specs.Prelude.{◌<◌, ◌≤◌, length};
 
+use crate::say::Output;
 use crate::{fields, say};
 
-pub fn answer(line: &[u8], as_text: bool) {
+pub fn answer(to: &mut Output, line: &[u8], as_text: bool) {
     let mut counts = [0u32; 8];
     let mut nexts = [0u32; 16];
     let k = fields::list(line, b'K', &mut counts);
     let n = fields::list(line, b'N', &mut nexts);
-    with_resets(line, as_text, &counts[..k], &nexts[..n]);
+    with_resets(to, line, as_text, &counts[..k], &nexts[..n]);
 }
 
-fn with_resets(line: &[u8], as_text: bool, counts: &[u32], nexts: &[u32]) {
+fn with_resets(to: &mut Output, line: &[u8], as_text: bool, counts: &[u32], nexts: &[u32]) {
     let mut resets = [0u32; 16];
     let t = fields::list(line, b'T', &mut resets);
-    with_gates(line, as_text, counts, nexts, &resets[..t]);
+    with_gates(to, line, as_text, counts, nexts, &resets[..t]);
 }
 
-fn with_gates(line: &[u8], as_text: bool, counts: &[u32], nexts: &[u32], resets: &[u32]) {
+fn with_gates(
+    to: &mut Output,
+    line: &[u8],
+    as_text: bool,
+    counts: &[u32],
+    nexts: &[u32],
+    resets: &[u32],
+) {
     let mut gates = [0u32; 128];
     let mut sizes = [0u32; 8];
     let mut roots = [0u32; 32];
@@ -31,6 +38,7 @@ fn with_gates(line: &[u8], as_text: bool, counts: &[u32], nexts: &[u32], resets:
     let room = fields::number(line, fields::after_word(line));
     let inputs = fields::number(line, room.next);
     lent(
+        to,
         as_text,
         room.value as usize,
         (inputs.value % 4294967296) as u32,
@@ -45,6 +53,7 @@ fn with_gates(line: &[u8], as_text: bool, counts: &[u32], nexts: &[u32], resets:
 
 // Writes the circuit into so many bytes.
 fn lent(
+    to: &mut Output,
     as_text: bool,
     room: usize,
     inputs: u32,
@@ -59,6 +68,7 @@ fn lent(
     let n = bytes_front(room, &out);
     if as_text {
         text_written(
+            to,
             inputs,
             counts,
             nexts,
@@ -70,6 +80,7 @@ fn lent(
         );
     } else {
         written(
+            to,
             inputs,
             counts,
             nexts,
@@ -84,6 +95,7 @@ fn lent(
 
 // Writes the circuit as a binary file, and answers with what is written.
 fn written(
+    to: &mut Output,
     inputs: u32,
     counts: &[u32],
     nexts: &[u32],
@@ -97,11 +109,12 @@ fn written(
     let number = file_words::write(
         inputs, counts, nexts, resets, gates, sizes, roots, out, &mut words,
     );
-    told(number, words, out);
+    told(to, number, words, out);
 }
 
 // Writes the circuit as a text, and answers with what is written.
 fn text_written(
+    to: &mut Output,
     inputs: u32,
     counts: &[u32],
     nexts: &[u32],
@@ -115,22 +128,22 @@ fn text_written(
     let number = file_words::write_text(
         inputs, counts, nexts, resets, gates, sizes, roots, out, &mut words,
     );
-    told(number, words, out);
+    told(to, number, words, out);
 }
 
-fn told(number: u32, words: [u64; 2], out: &[u8]) {
-    say::written(number, words);
-    say::hex(out);
-    say::text(b"\n");
+fn told(to: &mut Output, number: u32, words: [u64; 2], out: &[u8]) {
+    say::written(to, number, words);
+    say::hex(to, out);
+    say::text(to, b"\n");
 }
 
-pub fn again(line: &[u8]) {
+pub fn again(to: &mut Output, line: &[u8]) {
     let mut file = [0u8; 256];
     let n = fields::bytes(line, fields::after_word(line), &mut file);
-    read(&file[..n]);
+    read(to, &file[..n]);
 }
 
-fn read(file: &[u8]) {
+fn read(to: &mut Output, file: &[u8]) {
     let mut nexts = [0u32; 16];
     let mut resets = [0u32; 16];
     let mut gates = [0u32; 128];
@@ -147,14 +160,24 @@ fn read(file: &[u8]) {
         &mut words,
     );
     if number == 0 {
-        fronts(file.len(), &words, &nexts, &resets, &gates, &sizes, &roots);
+        fronts(
+            to,
+            file.len(),
+            &words,
+            &nexts,
+            &resets,
+            &gates,
+            &sizes,
+            &roots,
+        );
     } else {
-        say::refusal(number as u64, words[0]);
+        say::refusal(to, number as u64, words[0]);
     }
 }
 
 // Writes the circuit of a file's words and of the fronts of its lists.
 fn fronts(
+    to: &mut Output,
     room: usize,
     words: &[u64],
     nexts: &[u32],
@@ -176,6 +199,7 @@ fn fronts(
     let s = front(count(words, 10) as usize, sizes);
     let r = front(all as usize, roots);
     lent(
+        to,
         false,
         room,
         count(words, 2),
@@ -201,13 +225,13 @@ fn count(words: &[u64], at: usize) -> u32
 
 // The number, or the list's length where that is smaller; and the same of bytes.
 fn front(n: usize, list: &[u32]) -> usize
-    ensures { IsPrefixLen result list.now }
+    ensures { result ≤ length list.now }
 {
     if n < list.len() { n } else { list.len() }
 }
 
 fn bytes_front(n: usize, list: &[u8]) -> usize
-    ensures { IsPrefixLen result list.now }
+    ensures { result ≤ length list.now }
 {
     if n < list.len() { n } else { list.len() }
 }

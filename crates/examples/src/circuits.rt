@@ -1,37 +1,46 @@
 // Circuits: renumbers the one on an example's line and prints the answer and the fronts of the lent lists. These are longer than they have to
 // be and hold 77, so that a word written past those named would show. Where the line asks for literals, their images in the map follow.
+use crate::say::Output;
 use crate::{lists, say};
 use circuit::{Answer, CircuitRecord, Image};
 use lit::{Lit, Var};
 
 // This function and the three after it read the line's lists.
-pub fn answer(line: &[u8]) {
+pub fn answer(to: &mut Output, line: &[u8]) {
     let mut inputs = [0u32; 4];
     let n = lists::list(line, b'I', &mut inputs);
-    with_latches(line, &inputs[..n]);
+    with_latches(to, line, &inputs[..n]);
 }
 
-fn with_latches(line: &[u8], inputs: &[u32]) {
+fn with_latches(to: &mut Output, line: &[u8], inputs: &[u32]) {
     let mut states = [0u32; 4];
     let mut nexts = [0u32; 4];
     let s = lists::list(line, b'L', &mut states);
     let n = lists::list(line, b'N', &mut nexts);
-    with_resets(line, inputs, &states[..s], &nexts[..n]);
+    with_resets(to, line, inputs, &states[..s], &nexts[..n]);
 }
 
 // Resets stand behind a P; where the line has none, each latch has 0.
-fn with_resets(line: &[u8], inputs: &[u32], states: &[u32], nexts: &[u32]) {
+fn with_resets(to: &mut Output, line: &[u8], inputs: &[u32], states: &[u32], nexts: &[u32]) {
     let mut resets = [0u32; 4];
     let p = lists::list_or(line, b'P', &mut resets, states.len());
-    with_gates(line, inputs, states, nexts, &resets[..p]);
+    with_gates(to, line, inputs, states, nexts, &resets[..p]);
 }
 
-fn with_gates(line: &[u8], inputs: &[u32], states: &[u32], nexts: &[u32], resets: &[u32]) {
+fn with_gates(
+    to: &mut Output,
+    line: &[u8],
+    inputs: &[u32],
+    states: &[u32],
+    nexts: &[u32],
+    resets: &[u32],
+) {
     let mut gates = [0u32; 12];
     let mut roots = [0u32; 8];
     let g = lists::list(line, b'G', &mut gates);
     let r = lists::list(line, b'R', &mut roots);
     shown(
+        to,
         line,
         record(line, r),
         inputs,
@@ -65,6 +74,7 @@ fn kinds(line: &[u8], roots: usize) -> [u32; 5] {
 }
 
 fn shown(
+    to: &mut Output,
     line: &[u8],
     record: CircuitRecord,
     inputs: &[u32],
@@ -96,6 +106,7 @@ fn shown(
         &mut scratch,
     );
     printed(
+        to,
         answer,
         &map,
         &gates_out,
@@ -103,11 +114,12 @@ fn shown(
         &reset_images,
         &root_images,
     );
-    asked(b"; images", line, &map);
-    say::line_end();
+    asked(to, b"; images", line, &map);
+    say::line_end(to);
 }
 
 fn printed(
+    to: &mut Output,
     answer: Answer,
     map: &[u32],
     gates: &[u32],
@@ -115,80 +127,80 @@ fn printed(
     resets: &[u32],
     roots: &[u32],
 ) {
-    outcome(answer);
-    words(b"; map", map);
-    words(b"; gates", gates);
-    words(b"; nexts", nexts);
-    words(b"; resets", resets);
-    words(b"; roots", roots);
+    outcome(to, answer);
+    words(to, b"; map", map);
+    words(to, b"; gates", gates);
+    words(to, b"; nexts", nexts);
+    words(to, b"; resets", resets);
+    words(to, b"; roots", roots);
 }
 
 // Images in a map that stands on the line.
-pub fn in_map(line: &[u8]) {
+pub fn in_map(to: &mut Output, line: &[u8]) {
     let mut map = [0u32; 4];
     let n = lists::list(line, b'M', &mut map);
-    asked(b"images", line, &map[..n]);
-    say::line_end();
+    asked(to, b"images", line, &map[..n]);
+    say::line_end(to);
 }
 
 // The name, and the images of the literals that the line asks for, if it asks.
-fn asked(name: &[u8], line: &[u8], map: &[u32]) {
+fn asked(to: &mut Output, name: &[u8], line: &[u8], map: &[u32]) {
     if lists::named(line, b'Q') {
         let mut codes = [0u32; 8];
         let n = lists::list(line, b'Q', &mut codes);
-        say::text(name);
-        images(map, Var::from_index(lists::one(line, b'V')), &codes[..n]);
+        say::text(to, name);
+        images(
+            to,
+            map,
+            Var::from_index(lists::one(line, b'V')),
+            &codes[..n],
+        );
     }
 }
 
-fn images(map: &[u32], top: Var, codes: &[u32]) {
-    let mut i = 0;
-    while i < codes.len() {
-        image(aig::lookup(map, top, Lit::from_code(codes[i])));
-        i += 1;
+fn images(to: &mut Output, map: &[u32], top: Var, codes: &[u32]) {
+    for code in codes {
+        image(to, aig::lookup(map, top, Lit::from_code(*code)));
     }
 }
 
 // A space and the image's code; `-` where there is none.
-fn image(found: Image) {
+fn image(to: &mut Output, found: Image) {
     match found {
-        Image::Code(code) => say::counted(b" ", code.code() as u64),
-        Image::Absent => say::text(b" -"),
+        Image::Code(code) => say::counted(to, b" ", code.code() as u64),
+        Image::Absent => say::text(to, b" -"),
     }
 }
 
-pub fn outcome(answer: Answer) {
+pub fn outcome(to: &mut Output, answer: Answer) {
     match answer {
         Answer::Renumbered(summary) => {
-            say::counted(b"made ", summary.made as u64);
-            say::counted(b", largest ", summary.top.index() as u64);
+            say::counted(to, b"made ", summary.made as u64);
+            say::counted(to, b", largest ", summary.top.index() as u64);
         }
         Answer::Refused(why) => {
-            say::counted(b"refused ", refusals::number(why) as u64);
-            say::counted(b" ", refusals::literal(why).code() as u64);
+            say::counted(to, b"refused ", refusals::number(why) as u64);
+            say::counted(to, b" ", refusals::literal(why).code() as u64);
         }
     }
 }
 
 // The name, and the words up to the first 77.
-pub fn words(name: &[u8], list: &[u32]) {
-    say::text(name);
-    let mut i = 0;
-    while i < list.len() {
-        let w = list[i];
-        if w == 77 {
+pub fn words(to: &mut Output, name: &[u8], list: &[u32]) {
+    say::text(to, name);
+    for w in list {
+        if *w == 77 {
             return;
         }
-        word(w);
-        i += 1;
+        word(to, *w);
     }
 }
 
 // A space and the word; `-` for the word that stands for no image.
-fn word(w: u32) {
+fn word(to: &mut Output, w: u32) {
     if w == 4294967295 {
-        say::text(b" -");
+        say::text(to, b" -");
         return;
     }
-    say::counted(b" ", w as u64);
+    say::counted(to, b" ", w as u64);
 }

@@ -1,11 +1,12 @@
 // Bytes as a text in quotes: `\n` and `\r` for the ends of lines, `\x` and two hexadecimal digits for any byte, and each other letter for itself.
-ghost use Rattle.io.specs.Counts.{IsPrefixLen};
+ghost use Rattle.std.specs.Prelude.{◌≤◌, length};
 
+use crate::say::Output;
 use crate::{fields, say};
 
 // The bytes of the text that begins at a place, up to its quote, as many as there is room for, and how many they are.
 pub fn bytes(s: &[u8], from: usize, out: &mut [u8]) -> usize
-    ensures { IsPrefixLen result out.new }
+    ensures { result ≤ length out.new }
 {
     let mut n = 0;
     let mut at = from;
@@ -56,21 +57,19 @@ fn width(s: &[u8], at: usize) -> usize {
 }
 
 // Prints the bytes as such a text: a letter, a digit, a mark or a space for itself, but for a quote and a backslash.
-pub fn show(s: &[u8]) {
-    let mut i = 0;
-    while i < s.len() {
-        shown(s[i]);
-        i += 1;
+pub fn show(to: &mut Output, s: &[u8]) {
+    for b in s {
+        shown(to, *b);
     }
 }
 
-fn shown(b: u8) {
+fn shown(to: &mut Output, b: u8) {
     match b {
-        b'\n' => say::text(b"\\n"),
-        b' '..=b'!' | b'#'..=b'[' | b']'..=b'~' => say::byte(b),
+        b'\n' => say::text(to, b"\\n"),
+        b' '..=b'!' | b'#'..=b'[' | b']'..=b'~' => say::byte(to, b),
         _ => {
-            say::text(b"\\x");
-            say::digits(b);
+            say::text(to, b"\\x");
+            say::digits(to, b);
         }
     }
 }

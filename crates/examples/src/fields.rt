@@ -1,9 +1,20 @@
 // The parts of an example's line: words with a space between each two, numbers in decimal, and bytes in hexadecimal.
 ghost use Rattle.std.specs.Prelude.{◌≤◌, length};
-ghost use Rattle.io.specs.Counts.{IsPrefixLen};
 
-use bytes::scan::find;
 use token::Token;
+
+// The first place of the byte between two places; the second of these where it does not stand there.
+pub fn find(s: &[u8], from: usize, to: usize, b: u8) -> usize
+    requires { (from ≤ to) × (to ≤ length s.now) }
+    ensures { (from ≤ result) × (result ≤ to) }
+{
+    for at in from..to {
+        if s[at] == b {
+            return at;
+        }
+    }
+    to
+}
 
 // Where the word after as many spaces begins; the end if there is none.
 pub fn word(s: &[u8], spaces: usize) -> usize
@@ -41,7 +52,7 @@ pub fn number(s: &[u8], at: usize) -> u64 {
 
 // The bytes that stand from a place on, each as two digits and a space, as many as there is room for, and how many they are.
 pub fn bytes(s: &[u8], from: usize, out: &mut [u8]) -> usize
-    ensures { IsPrefixLen result out.new }
+    ensures { result ≤ length out.new }
 {
     let mut n = 0;
     let mut at = from;

@@ -1,50 +1,51 @@
 // Literals: document 01's index 3 and code 6, the constant's codes, the largest index whose code fits, and flips by either sign.
 use crate::say;
+use crate::say::Output;
 use lit::{Doubled, Lit, Var};
 
-pub fn run() {
-    doubled(3);
-    doubled(0);
-    doubled(2147483647);
-    doubled(2147483648);
-    halved(6);
-    halved(7);
-    halved(0);
-    halved(1);
-    halved(4294967295);
-    flipped(6, 2);
-    flipped(6, 3);
-    flipped(7, 2);
-    flipped(7, 3);
-    flipped(4294967294, 1);
+pub fn run(to: &mut Output) {
+    doubled(to, 3);
+    doubled(to, 0);
+    doubled(to, 2147483647);
+    doubled(to, 2147483648);
+    halved(to, 6);
+    halved(to, 7);
+    halved(to, 0);
+    halved(to, 1);
+    halved(to, 4294967295);
+    flipped(to, 6, 2);
+    flipped(to, 6, 3);
+    flipped(to, 7, 2);
+    flipped(to, 7, 3);
+    flipped(to, 4294967294, 1);
 }
 
 // The code of a variable.
-fn doubled(index: u32) {
-    say::counted(b"index ", index as u64);
+fn doubled(to: &mut Output, index: u32) {
+    say::counted(to, b"index ", index as u64);
     match Var::from_index(index).lit() {
         Doubled::Code(l) => {
-            say::counted(b" has the code ", l.code() as u64);
+            say::counted(to, b" has the code ", l.code() as u64);
         }
-        Doubled::TooBig => say::text(b" is too big for a code"),
+        Doubled::TooBig => say::text(to, b" is too big for a code"),
     }
-    say::line_end();
+    say::line_end(to);
 }
 
 // The variable of a literal, whichever its sign.
-fn halved(code: u32) {
+fn halved(to: &mut Output, code: u32) {
     let variable = Lit::from_code(code).var();
-    say::counted(b"code ", code as u64);
-    say::counted(b" names the index ", variable.index() as u64);
-    say::line_end();
+    say::counted(to, b"code ", code as u64);
+    say::counted(to, b" names the index ", variable.index() as u64);
+    say::line_end(to);
 }
 
 // A literal flipped by the sign of another: by an even code it stays,
 // and by an odd code its low bit changes.
-fn flipped(code: u32, by: u32) {
+fn flipped(to: &mut Output, code: u32, by: u32) {
     let answer = Lit::from_code(code).flipped(Lit::from_code(by));
-    say::counted(b"code ", code as u64);
-    say::counted(b" flipped by ", by as u64);
-    say::counted(b" is ", answer.code() as u64);
-    say::line_end();
+    say::counted(to, b"code ", code as u64);
+    say::counted(to, b" flipped by ", by as u64);
+    say::counted(to, b" is ", answer.code() as u64);
+    say::line_end(to);
 }

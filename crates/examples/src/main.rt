@@ -17,39 +17,68 @@ mod texts;
 mod tokens;
 mod writings;
 
-use bytes::scan::find;
-use libc::STDIN_FILENO;
+ghost use Rattle.std.specs.Prelude.{◌≡◌, length};
+ghost use Rattle.std.specs.Io.{ReadsAtMost};
 
-fn main() {
-    lits::run();
-    let mut examples = io::large_buffer();
-    let n = io::read_full(STDIN_FILENO, &mut examples);
-    lines(&examples[..n]);
-    readings::run();
-    records::run();
+use fields::find;
+use say::Output;
+use std::io;
+use std::io::{Read, Stdin};
+
+// Room for the examples.
+fn examples_room() -> [u8; 65536]
+    ensures { 65536 ≡ length result }
+{
+    [0; 65536]
+}
+
+fn main(rt: HostRuntime) -> io::Result<()> {
+    let mut to = Output::new(rt.stdout());
+    lits::run(&mut to);
+    let mut examples = examples_room();
+    let n = read(rt.stdin(), &mut examples)?;
+    lines(&mut to, &examples[..n]);
+    readings::run(&mut to);
+    records::run(&mut to);
+    to.end()
+}
+
+// Reads until the room is full or the input ends, and answers how many bytes stand at the front of the room.
+fn read(mut from: Stdin, room: &mut [u8]) -> io::Result<usize>
+    ensures { ReadsAtMost result room.new }
+{
+    let mut done: usize = 0;
+    while done < room.len() {
+        let more = from.read(&mut room[done..])?;
+        if more == 0 {
+            return Ok(done);
+        }
+        done += more;
+    }
+    Ok(done)
 }
 
 // Each line but its newline, in turn.
-fn lines(s: &[u8]) {
+fn lines(to: &mut Output, s: &[u8]) {
     let mut at = 0;
     while at < s.len() {
         let end = find(s, at, s.len(), b'\n');
-        line(&s[at..end]);
+        line(to, &s[at..end]);
         at = end + 1;
     }
 }
 
 // The first letter tells a circuit, a map, a file, a text, what is written and what is written again, and a token apart: a capital W or A writes a text. A line
 // that is empty or begins with `#` is for the reader.
-fn line(s: &[u8]) {
+fn line(to: &mut Output, s: &[u8]) {
     match fields::byte(s, 0) {
         0 | b'#' => {}
-        b'V' => circuits::answer(s),
-        b'M' => circuits::in_map(s),
-        b'f' => files::answer(s),
-        b'T' => texts::answer(s),
-        b'w' | b'W' => writings::answer(s),
-        b'a' | b'A' => writings::again(s),
-        _ => tokens::answer(s),
+        b'V' => circuits::answer(to, s),
+        b'M' => circuits::in_map(to, s),
+        b'f' => files::answer(to, s),
+        b'T' => texts::answer(to, s),
+        b'w' | b'W' => writings::answer(to, s),
+        b'a' | b'A' => writings::again(to, s),
+        _ => tokens::answer(to, s),
     }
 }

@@ -1,40 +1,42 @@
 // Gate records: two inputs, two gates and a root each, renumbered with hashing, and the answer and the lists that were lent. Each is a word longer than
 // asked, but for a last list that is too short, and holds 77 where nothing is written.
+use crate::say::Output;
 use crate::{circuits, say};
 use aig_records::GateRecord;
 use circuit::CircuitRecord;
 use lit::{Lit, Var};
 
-pub fn run() {
-    twins();
-    again();
-    over();
-    short();
+pub fn run(to: &mut Output) {
+    twins(to);
+    again(to);
+    over(to);
+    short(to);
 }
 
 // Gates of one pair, in either order: hashing makes one.
-fn twins() {
+fn twins(to: &mut Output) {
     let inputs: [u32; 2] = [2, 4];
     let mut flat = [77u32; 7];
-    renumbered(b"twins: ", &inputs, gate(8, 4, 2), &mut flat);
+    renumbered(to, b"twins: ", &inputs, gate(8, 4, 2), &mut flat);
 }
 
-fn again() {
+fn again(to: &mut Output) {
     let inputs: [u32; 2] = [2, 3];
     let mut flat = [77u32; 7];
-    renumbered(b"an input again: ", &inputs, gate(8, 4, 2), &mut flat);
+    renumbered(to, b"an input again: ", &inputs, gate(8, 4, 2), &mut flat);
 }
 
-fn over() {
+fn over(to: &mut Output) {
     let inputs: [u32; 2] = [2, 4];
     let mut flat = [77u32; 7];
-    renumbered(b"a code over 9: ", &inputs, gate(8, 4, 10), &mut flat);
+    renumbered(to, b"a code over 9: ", &inputs, gate(8, 4, 10), &mut flat);
 }
 
-fn short() {
+fn short(to: &mut Output) {
     let inputs: [u32; 2] = [2, 4];
     let mut flat = [77u32; 5];
     renumbered(
+        to,
         b"a word too few for the records: ",
         &inputs,
         gate(8, 4, 2),
@@ -60,7 +62,7 @@ fn circuit() -> CircuitRecord {
     }
 }
 
-fn renumbered(name: &[u8], inputs: &[u32], second: GateRecord, flat: &mut [u32]) {
+fn renumbered(to: &mut Output, name: &[u8], inputs: &[u32], second: GateRecord, flat: &mut [u32]) {
     let first = gate(6, 2, 4);
     let gates: [GateRecord; 2] = [first, second];
     let latches: [u32; 0] = [];
@@ -87,33 +89,31 @@ fn renumbered(name: &[u8], inputs: &[u32], second: GateRecord, flat: &mut [u32])
         &mut scratch,
         flat,
     );
-    say::text(name);
-    circuits::outcome(answer);
-    say::line_end();
-    words(b"  map", &map);
-    words(b"  next images", &next_images);
-    words(b"  reset images", &reset_images);
-    words(b"  root images", &root_images);
-    words(b"  gates", &gates_out);
-    words(b"  scratch", &scratch);
-    words(b"  records laid flat", flat);
+    say::text(to, name);
+    circuits::outcome(to, answer);
+    say::line_end(to);
+    words(to, b"  map", &map);
+    words(to, b"  next images", &next_images);
+    words(to, b"  reset images", &reset_images);
+    words(to, b"  root images", &root_images);
+    words(to, b"  gates", &gates_out);
+    words(to, b"  scratch", &scratch);
+    words(to, b"  records laid flat", flat);
 }
 
-fn words(name: &[u8], list: &[u32]) {
-    cells(name, list);
-    say::line_end();
+fn words(to: &mut Output, name: &[u8], list: &[u32]) {
+    cells(to, name, list);
+    say::line_end(to);
 }
 
 // The name, and every word of the list.
-pub fn cells(name: &[u8], list: &[u32]) {
-    say::text(name);
-    let mut i = 0;
-    while i < list.len() {
-        word(list[i]);
-        i += 1;
+pub fn cells(to: &mut Output, name: &[u8], list: &[u32]) {
+    say::text(to, name);
+    for w in list {
+        word(to, *w);
     }
 }
 
-fn word(w: u32) {
-    say::counted(b" ", w as u64);
+fn word(to: &mut Output, w: u32) {
+    say::counted(to, b" ", w as u64);
 }

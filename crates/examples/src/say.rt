@@ -1,30 +1,58 @@
 // Text and numbers on standard output.
-use libc::STDOUT_FILENO;
+use std::io;
+use std::io::Stdout;
 
-pub fn text(s: &[u8]) {
-    io::write_all(STDOUT_FILENO, s);
+// Standard output, and what writing came to so far: after a write that failed nothing more is written.
+#[derive(Drop)]
+pub struct Output {
+    stdout: Stdout,
+    written: io::Result<()>,
 }
 
-pub fn byte(b: u8) {
+impl Output {
+    pub fn new(stdout: Stdout) -> Output {
+        Output {
+            stdout,
+            written: Ok(()),
+        }
+    }
+
+    // Whether all was written.
+    pub fn end(self) -> io::Result<()> {
+        self.written
+    }
+}
+
+pub fn text(to: &mut Output, s: &[u8]) {
+    if to.written.is_ok() {
+        to.written = to.stdout.write_all(s);
+    }
+}
+
+pub fn byte(to: &mut Output, b: u8) {
     let one: [u8; 1] = [b];
-    text(&one);
+    text(to, &one);
 }
 
 // A byte's two hexadecimal digits.
-pub fn digits(b: u8) {
-    io::print_hex(STDOUT_FILENO, b as u64, 2);
+pub fn digits(to: &mut Output, b: u8) {
+    if to.written.is_ok() {
+        to.written = print!(to.stdout; "{b:02x}");
+    }
 }
 
-pub fn number(n: u64) {
-    io::print_decimal(STDOUT_FILENO, n);
+pub fn number(to: &mut Output, n: u64) {
+    if to.written.is_ok() {
+        to.written = to.stdout.print(n);
+    }
 }
 
 // A text and a number after it.
-pub fn counted(s: &[u8], n: u64) {
-    text(s);
-    number(n);
+pub fn counted(to: &mut Output, s: &[u8], n: u64) {
+    text(to, s);
+    number(to, n);
 }
 
-pub fn line_end() {
-    text(b"\n");
+pub fn line_end(to: &mut Output) {
+    text(to, b"\n");
 }

@@ -1,32 +1,33 @@
 // Text files: reads the one that stands in quotes on an example's line, and prints the line, the answer and the lists that were lent. These hold 77, so that
 // a word written past those named would show.
-ghost use Rattle.io.specs.Counts.{IsPrefixLen};
+ghost use Rattle.std.specs.Prelude.{◌≤◌, length};
 
+use crate::fields::find;
+use crate::say::Output;
 use crate::{circuits, escapes, fields, files, records, say, writings};
-use bytes::scan::find;
 
-pub fn answer(line: &[u8]) {
-    say::text(line);
+pub fn answer(to: &mut Output, line: &[u8]) {
+    say::text(to, line);
     let mut file = [0u8; 96];
     let quote = find(line, 0, line.len(), b'"');
     let n = escapes::bytes(line, fields::sum(quote, 1), &mut file);
     let end = find(line, 0, line.len(), b';');
-    in_lists(fields::byte(line, fields::sum(end, 2)), &file[..n]);
-    say::line_end();
+    in_lists(to, fields::byte(line, fields::sum(end, 2)), &file[..n]);
+    say::line_end(to);
 }
 
 // The letter after a semicolon tells which lists are lent.
-fn in_lists(kind: u8, file: &[u8]) {
+fn in_lists(to: &mut Output, kind: u8, file: &[u8]) {
     match kind {
-        0 => fronts(file),
-        b'L' => longer(file),
-        b'A' => short_answer(file),
-        _ => just(kind, file),
+        0 => fronts(to, file),
+        b'L' => longer(to, file),
+        b'A' => short_answer(to, file),
+        _ => just(to, kind, file),
     }
 }
 
 // Lists of nine words, of twelve for gates, whose fronts are printed if the text is taken.
-fn fronts(file: &[u8]) {
+fn fronts(to: &mut Output, file: &[u8]) {
     let mut inputs = [77u32; 9];
     let mut states = [77u32; 9];
     let mut nexts = [77u32; 9];
@@ -46,21 +47,21 @@ fn fronts(file: &[u8]) {
         &mut roots,
         &mut words,
     );
-    files::said(number, &words);
+    files::said(to, number, &words);
     if number == 0 {
-        circuits::words(b"; inputs", &inputs);
-        circuits::words(b"; states", &states);
-        circuits::words(b"; nexts", &nexts);
-        circuits::words(b"; resets", &resets);
-        circuits::words(b"; gates", &gates);
-        circuits::words(b"; sizes", &sizes);
-        circuits::words(b"; roots", &roots);
+        circuits::words(to, b"; inputs", &inputs);
+        circuits::words(to, b"; states", &states);
+        circuits::words(to, b"; nexts", &nexts);
+        circuits::words(to, b"; resets", &resets);
+        circuits::words(to, b"; gates", &gates);
+        circuits::words(to, b"; sizes", &sizes);
+        circuits::words(to, b"; roots", &roots);
     }
 }
 
 // Lists with just the words that are needed for an input, two latches, two gates, two justice sets and seven roots; the one that the letter names has a word
 // less. This function and the two after it print every word of each list.
-fn just(kind: u8, file: &[u8]) {
+fn just(to: &mut Output, kind: u8, file: &[u8]) {
     let mut inputs = [77u32; 1];
     let mut states = [77u32; 2];
     let mut nexts = [77u32; 2];
@@ -77,6 +78,7 @@ fn just(kind: u8, file: &[u8]) {
     let s = lent(kind, b'S', &sizes);
     let r = lent(kind, b'R', &roots);
     whole(
+        to,
         file,
         &mut inputs[..i],
         &mut states[..t],
@@ -91,7 +93,7 @@ fn just(kind: u8, file: &[u8]) {
 
 // How many words of the list are lent: one less where its letter is named.
 fn lent(kind: u8, letter: u8, list: &[u32]) -> usize
-    ensures { IsPrefixLen result list.now }
+    ensures { result ≤ length list.now }
 {
     let fewer = if kind == letter { 1 } else { 0 };
     writings::front(less(list.len(), fewer), list)
@@ -102,7 +104,7 @@ fn less(n: usize, by: usize) -> usize {
     if by < n { n - by } else { 0 }
 }
 
-fn longer(file: &[u8]) {
+fn longer(to: &mut Output, file: &[u8]) {
     let mut inputs = [77u32; 2];
     let mut states = [77u32; 3];
     let mut nexts = [77u32; 3];
@@ -112,6 +114,7 @@ fn longer(file: &[u8]) {
     let mut roots = [77u32; 8];
     let mut words = [77u64; 12];
     whole(
+        to,
         file,
         &mut inputs,
         &mut states,
@@ -125,7 +128,7 @@ fn longer(file: &[u8]) {
 }
 
 // Ten words for the answer are too few.
-fn short_answer(file: &[u8]) {
+fn short_answer(to: &mut Output, file: &[u8]) {
     let mut inputs = [77u32; 1];
     let mut states = [77u32; 2];
     let mut nexts = [77u32; 2];
@@ -135,6 +138,7 @@ fn short_answer(file: &[u8]) {
     let mut roots = [77u32; 7];
     let mut words = [77u64; 10];
     whole(
+        to,
         file,
         &mut inputs,
         &mut states,
@@ -149,6 +153,7 @@ fn short_answer(file: &[u8]) {
 
 // Reads the text, and prints the answer and every word of each list.
 fn whole(
+    to: &mut Output,
     file: &[u8],
     inputs: &mut [u32],
     states: &mut [u32],
@@ -160,13 +165,14 @@ fn whole(
     words: &mut [u64],
 ) {
     read(
-        file, inputs, states, nexts, resets, gates, sizes, roots, words,
+        to, file, inputs, states, nexts, resets, gates, sizes, roots, words,
     );
-    cells(inputs, states, nexts, resets, gates, sizes, roots);
+    cells(to, inputs, states, nexts, resets, gates, sizes, roots);
 }
 
 // Reads the text, and prints the answer.
 fn read(
+    to: &mut Output,
     file: &[u8],
     inputs: &mut [u32],
     states: &mut [u32],
@@ -180,11 +186,12 @@ fn read(
     let number = file_words::read_text(
         file, inputs, states, nexts, resets, gates, sizes, roots, words,
     );
-    files::said(number, words);
+    files::said(to, number, words);
 }
 
 // Every word of each list.
 fn cells(
+    to: &mut Output,
     inputs: &[u32],
     states: &[u32],
     nexts: &[u32],
@@ -193,11 +200,11 @@ fn cells(
     sizes: &[u32],
     roots: &[u32],
 ) {
-    records::cells(b"; inputs", inputs);
-    records::cells(b"; states", states);
-    records::cells(b"; nexts", nexts);
-    records::cells(b"; resets", resets);
-    records::cells(b"; gates", gates);
-    records::cells(b"; sizes", sizes);
-    records::cells(b"; roots", roots);
+    records::cells(to, b"; inputs", inputs);
+    records::cells(to, b"; states", states);
+    records::cells(to, b"; nexts", nexts);
+    records::cells(to, b"; resets", resets);
+    records::cells(to, b"; gates", gates);
+    records::cells(to, b"; sizes", sizes);
+    records::cells(to, b"; roots", roots);
 }

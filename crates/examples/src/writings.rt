@@ -1,31 +1,31 @@
 // Writing: the ordered circuit on an example's line, or the one that is read of the file in quotes there, is written into lent bytes. The line is printed,
 // the answer, the answer's words and all bytes that were lent. The words are 77 and the bytes `~` before, so that one written past those named would show.
-ghost use Rattle.std.specs.Prelude.{◌<◌};
-ghost use Rattle.io.specs.Counts.{IsPrefixLen};
+ghost use Rattle.std.specs.Prelude.{◌<◌, ◌≤◌, length};
 
+use crate::fields::find;
+use crate::say::Output;
 use crate::{escapes, fields, files, lists, say};
-use bytes::scan::find;
 
 // This function and the two after it read the line's lists.
-pub fn answer(line: &[u8]) {
-    say::text(line);
-    say::text(b": ");
+pub fn answer(to: &mut Output, line: &[u8]) {
+    say::text(to, line);
+    say::text(to, b": ");
     let mut nexts = [0u32; 4];
     let mut gates = [0u32; 8];
     let n = lists::list(line, b'N', &mut nexts);
     let g = lists::list(line, b'G', &mut gates);
-    with_resets(line, &nexts[..n], &gates[..g]);
-    say::line_end();
+    with_resets(to, line, &nexts[..n], &gates[..g]);
+    say::line_end(to);
 }
 
 // Resets stand behind a P; where the line has none, each latch has 0.
-fn with_resets(line: &[u8], nexts: &[u32], gates: &[u32]) {
+fn with_resets(to: &mut Output, line: &[u8], nexts: &[u32], gates: &[u32]) {
     let mut resets = [0u32; 4];
     let p = lists::list_or(line, b'P', &mut resets, nexts.len());
-    with_roots(line, nexts, &resets[..p], gates);
+    with_roots(to, line, nexts, &resets[..p], gates);
 }
 
-fn with_roots(line: &[u8], nexts: &[u32], resets: &[u32], gates: &[u32]) {
+fn with_roots(to: &mut Output, line: &[u8], nexts: &[u32], resets: &[u32], gates: &[u32]) {
     let mut sizes = [0u32; 4];
     let mut roots = [0u32; 8];
     let s = lists::list(line, b'S', &mut sizes);
@@ -35,6 +35,7 @@ fn with_roots(line: &[u8], nexts: &[u32], resets: &[u32], gates: &[u32]) {
     let k = lists::list(line, b'K', &mut counts);
     let k = front(named_or(k, 5), &counts);
     shown(
+        to,
         fields::byte(line, 0),
         lists::one(line, b'B') as usize,
         named_or(lists::one(line, b'A') as usize, 3),
@@ -55,6 +56,7 @@ fn named_or(n: usize, other: usize) -> usize {
 
 // Writes the circuit in the form that the line's first letter tells into so many bytes, with so many words for the answer.
 fn shown(
+    to: &mut Output,
     form: u8,
     room: usize,
     lent: usize,
@@ -71,6 +73,7 @@ fn shown(
     let n = bytes_front(room, &out);
     let w = words_front(lent, &words);
     written(
+        to,
         form,
         inputs,
         counts,
@@ -86,6 +89,7 @@ fn shown(
 
 // Writes the circuit, and prints the answer, its words and the bytes.
 fn written(
+    to: &mut Output,
     form: u8,
     inputs: u32,
     counts: &[u32],
@@ -100,10 +104,10 @@ fn written(
     let number = number(
         form, inputs, counts, nexts, resets, gates, sizes, roots, out, words,
     );
-    said(number, words);
-    say::text(b"; bytes \"");
-    escapes::show(out);
-    say::text(b"\"");
+    said(to, number, words);
+    say::text(to, b"; bytes \"");
+    escapes::show(to, out);
+    say::text(to, b"\"");
 }
 
 // Writes the circuit as a text where the letter is a capital, and else as a binary file: 0, or a refusal's number.
@@ -130,29 +134,29 @@ fn number(
 }
 
 // `written` or `refused NUMBER`, and the answer's words.
-fn said(number: u32, words: &[u64]) {
+fn said(to: &mut Output, number: u32, words: &[u64]) {
     if number == 0 {
-        say::text(b"written");
+        say::text(to, b"written");
     } else {
-        say::counted(b"refused ", number as u64);
+        say::counted(to, b"refused ", number as u64);
     }
-    say::text(b"; answer");
-    files::part(b" ", words, 0);
-    files::part(b" ", words, 1);
-    files::part(b" ", words, 2);
+    say::text(to, b"; answer");
+    files::part(to, b" ", words, 0);
+    files::part(to, b" ", words, 1);
+    files::part(to, b" ", words, 2);
 }
 
 // Reads the file on the line, and writes what was read, into as many bytes as the file has; as a text, into 64.
-pub fn again(line: &[u8]) {
-    say::text(line);
+pub fn again(to: &mut Output, line: &[u8]) {
+    say::text(to, line);
     let mut file = [0u8; 64];
     let quote = find(line, 0, line.len(), b'"');
     let n = escapes::bytes(line, fields::sum(quote, 1), &mut file);
-    read(fields::byte(line, 0), &file[..n]);
-    say::line_end();
+    read(to, fields::byte(line, 0), &file[..n]);
+    say::line_end(to);
 }
 
-fn read(form: u8, file: &[u8]) {
+fn read(to: &mut Output, form: u8, file: &[u8]) {
     let mut nexts = [77u32; 4];
     let mut resets = [77u32; 4];
     let mut gates = [77u32; 8];
@@ -169,17 +173,20 @@ fn read(form: u8, file: &[u8]) {
         &mut words,
     );
     if number == 0 {
-        files::part(b": takes ", &words, 0);
-        say::text(b" bytes; ");
+        files::part(to, b": takes ", &words, 0);
+        say::text(to, b" bytes; ");
         let room = if form < b'a' { 64 } else { file.len() };
-        rewritten(form, room, &words, &nexts, &resets, &gates, &sizes, &roots);
+        rewritten(
+            to, form, room, &words, &nexts, &resets, &gates, &sizes, &roots,
+        );
         return;
     }
-    say::counted(b": refused ", number as u64);
+    say::counted(to, b": refused ", number as u64);
 }
 
 // Writes the circuit of a file's words and the fronts of its lists.
 fn rewritten(
+    to: &mut Output,
     form: u8,
     room: usize,
     words: &[u64],
@@ -202,6 +209,7 @@ fn rewritten(
     let s = front(count(words, 10) as usize, sizes);
     let r = front(all as usize, roots);
     shown(
+        to,
         form,
         room,
         3,
@@ -228,19 +236,19 @@ fn count(words: &[u64], at: usize) -> u32
 
 // The number, or the list's length where that is smaller. The two functions after it are the same for bytes and for the answer's words.
 pub fn front(n: usize, list: &[u32]) -> usize
-    ensures { IsPrefixLen result list.now }
+    ensures { result ≤ length list.now }
 {
     if n < list.len() { n } else { list.len() }
 }
 
 fn bytes_front(n: usize, list: &[u8]) -> usize
-    ensures { IsPrefixLen result list.now }
+    ensures { result ≤ length list.now }
 {
     if n < list.len() { n } else { list.len() }
 }
 
 fn words_front(n: usize, list: &[u64]) -> usize
-    ensures { IsPrefixLen result list.now }
+    ensures { result ≤ length list.now }
 {
     if n < list.len() { n } else { list.len() }
 }

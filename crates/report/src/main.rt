@@ -4,11 +4,11 @@
 #![tactic(auto)]
 
 ghost use Rattle.std.specs.Prelude.{◌≡◌, ◌≤◌, length, take};
-ghost use Rattle.io.specs.Counts.{IsPrefixLen};
 ghost use Rattle.sheet.specs.Report.{report_of};
 ghost use Rattle.report.specs.Input.{Within};
 
-use libc::{STDIN_FILENO, STDOUT_FILENO};
+use std::io;
+use std::io::{Read, Stdin};
 
 // What reading came to: as many bytes, at the front of the room, or a read that failed.
 #[derive(Clone, Copy)]
@@ -32,16 +32,14 @@ fn report_room() -> [u8; 131072]
 }
 
 // Reads until the room is full or the input ends.
-fn read(room: &mut [u8]) -> Input
+fn read(mut from: Stdin, room: &mut [u8]) -> Input
     ensures { Within result room.new }
 {
     let mut done: usize = 0;
     while done < room.len() {
-        let got = libc::read(STDIN_FILENO, &mut room[done..]);
-        if got < 0 {
+        let Ok(more) = from.read(&mut room[done..]) else {
             return Input::Unread;
-        }
-        let more = io::count(got, &room[done..]);
+        };
         if more == 0 {
             return Input::Bytes(done);
         }
@@ -54,17 +52,17 @@ fn read(room: &mut [u8]) -> Input
 fn answer(sheet: &[u8], n: usize, out: &mut [u8]) -> usize
     requires { (n ≤ length sheet.now) × (131072 ≤ length out.old) }
     ensures out_after { take result out.new ≡ report_of (take n sheet.now) }
-    ensures prefix_len { IsPrefixLen result out.new }
+    ensures prefix_len { (result ≤ length out.new) × (result ≡ length (take result out.new)) }
 {
     sheet::report(&sheet[..n], out)
 }
 
-fn main() {
+fn main(rt: HostRuntime) -> io::Result<()> {
     let mut sheet = sheet_room();
-    let Input::Bytes(n) = read(&mut sheet) else {
-        return;
+    let Input::Bytes(n) = read(rt.stdin(), &mut sheet) else {
+        return Ok(());
     };
     let mut out = report_room();
     let length = answer(&sheet, n, &mut out);
-    io::write_all(STDOUT_FILENO, &out[..length]);
+    rt.write_all(&out[..length])
 }

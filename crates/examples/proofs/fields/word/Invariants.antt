@@ -1,0 +1,9 @@
+-- The place lies within the line. The measure is the bytes that are left.
+use Rattle.std.proofs.Common.{length, ◌-◌, ◌≤◌}
+use Rattle.examples.proofs.fields.word.Given as goal
+
+abbrev pub invariant-loop-at : goal.invariant-loop-at
+invariant-loop-at l = l.at ≤ length l.s
+
+abbrev pub decreases-loop-at : goal.decreases-loop-at
+decreases-loop-at l = length l.s - l.at
