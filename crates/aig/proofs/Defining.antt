@@ -200,9 +200,9 @@ again_same s s' [] f = refl
 again_same s s' (d ∷ ds) f =
     rw (f (var d), again_same (var d ∷ s) (var d ∷ s') ds (λ v. ap (λ (b : Bool). eqb v (var d) || b) (f v)))
 
-seen-append_lem : (s xs ys : List ℕ) → seen_after s (xs ++ ys) ≡ seen_after (seen_after s xs) ys
-seen-append_lem s [] ys = refl
-seen-append_lem s (x ∷ xs) ys = seen-append_lem (var x ∷ s) xs ys
+seen-append : (s xs ys : List ℕ) → seen_after s (xs ++ ys) ≡ seen_after (seen_after s xs) ys
+seen-append s [] ys = refl
+seen-append s (x ∷ xs) ys = seen-append (var x ∷ s) xs ys
 
 or_past : (a b c : Bool) → b || (a || c) ≡ (a || b) || c
 or_past true true c = refl
@@ -216,9 +216,9 @@ or_swap true false = refl
 or_swap false true = refl
 or_swap false false = refl
 
-seen-elem_lem : (s ds : List ℕ) (v : ℕ) → elem v (seen_after s ds) ≡ elem v (map var ds) || elem v s
-seen-elem_lem s [] v = refl
-seen-elem_lem s (d ∷ ds) v = seen-elem_lem (var d ∷ s) ds v ∙ or_past (eqb v (var d)) (elem v (map var ds)) (elem v s)
+seen-elem : (s ds : List ℕ) (v : ℕ) → elem v (seen_after s ds) ≡ elem v (map var ds) || elem v s
+seen-elem s [] v = refl
+seen-elem s (d ∷ ds) v = seen-elem (var d ∷ s) ds v ∙ or_past (eqb v (var d)) (elem v (map var ds)) (elem v s)
 
 -- a table of zeros, and the constant's mark
 start_known : (gs : List Gate) (words : ℕ) → 0 < words → Known gs words 0 (0 ∷ []) (set (zeros words) 0 1)
@@ -329,7 +329,7 @@ module _ (inputs states : List ℕ) (gs : List Gate) (words : ℕ) (some' : 0 < 
   same_six : first_again seen_gates states ≡ six
   same_six =
       again_same _ _ states
-      (λ v. ap (elem v) (sym (seen-append_lem (0 ∷ []) inputs outs)) ∙ seen-elem_lem (0 ∷ []) (inputs ++ outs) v
+      (λ v. ap (elem v) (sym (seen-append (0 ∷ []) inputs outs)) ∙ seen-elem (0 ∷ []) (inputs ++ outs) v
       ∙ or_swap (eqb v 0) (elem v (map var (inputs ++ outs))))
 
   judged_as : JudgeOf Ends (define_all (zeros words) inputs states gs) (fail_at five Again (fail_at six StateAgain Passed))

@@ -31,7 +31,7 @@ use Rattle.aig.specs.Already.{codes, FreeIn, Says}
 use Rattle.aig.specs.Store.{with_gate, MadeIn}
 use Rattle.aig.specs.Settle.{Left, numbers, linked_if, settled}
 use Rattle.aig.specs.Going.{Holds, Stacked}
-use Rattle.aig.proofs.Parts.{part-set_lem, part_before, part_length}
+use Rattle.aig.proofs.Parts.{part-set, part_before, part_length}
 use Rattle.aig.proofs.Branching.{trie_more}
 
 -- two zeros become the words of a gate
@@ -55,8 +55,8 @@ module _ (s : Shape) (made : List walk.Pair) (out scratch : List ℕ) (m : MadeI
     abbrev after : List ℕ
     after = linked (length made) (links_at s + at) scratch
 
-    pub linked-length_lem : length after ≡ length scratch
-    linked-length_lem = length-set scratch (links_at s + at) (length made + 1)
+    pub linked-length : length after ≡ length scratch
+    linked-length = length-set scratch (links_at s + at) (length made + 1)
 
     pub linked_table : table_of s after ≡ table_of s scratch
     linked_table = take-set-le s.vars scratch (links_at s + at) (length made + 1) (omega arith)
@@ -66,7 +66,7 @@ module _ (s : Shape) (made : List walk.Pair) (out scratch : List ℕ) (m : MadeI
 
     linked_links : links_of s after ≡ set (links_of s scratch) at (suc (length made))
     linked_links =
-        part-set_lem (links_at s) (links_size s) scratch at (length made + 1) inside
+        part-set (links_at s) (links_size s) scratch at (length made + 1) inside
         ∙ ap (set (links_of s scratch) at) (add-one (length made))
 
     pub linked_trie : s.hash ≡ true → FreeAt s.vars made (links_of s scratch) (codes p) at → p.larger.0 < 2 * s.vars → p.smaller.0 < 2 * s.vars
@@ -133,7 +133,7 @@ module _ (N : Net) {s : Shape} (counted : s.sources ≡ source_count N) {gates :
           let m = h.gates_made in
           let inside : there.at < links_size s
           = omega (arith, there.free.inside, part_length (links_at s) (links_size s) scratch (omega (arith, m.room.long))) in (
-            ap length q ∙ linked-length_lem s w.made out scratch m p below there.at inside,
+            ap length q ∙ linked-length s w.made out scratch m p below there.at inside,
             ap (table_of s) q ∙ linked_table s w.made out scratch m p below there.at inside,
             ap (stack_of s) q ∙ linked_stack s w.made out scratch m p below there.at inside,
             λ on. subst (λ (l : List ℕ). Trie s.vars (w.made ++ (codes p ∷ [])) (links_of s l)) (sym q)

@@ -28,7 +28,7 @@ use Rattle.circuit.proofs.Tests.{Same, same, other, same_test}
 use Rattle.circuit.specs.Invariant.{Inv, Running}
 use Rattle.circuit.specs.Claims.{gate_at}
 use Rattle.aig.proofs.Stepping.{returning}
-use Rattle.aig.proofs.Parts.{part-set_lem, part-after_lem, part_length}
+use Rattle.aig.proofs.Parts.{part-set, part-after, part_length}
 use Rattle.aig.proofs.Finding.{out_length}
 
 module _ {s : Shape} {sources gates : List ℕ} (g : Ground s sources gates) where
@@ -106,7 +106,7 @@ module _ {s : Shape} {depth : ℕ} {fs : List Frame} {scratch : List ℕ} (st : 
       record {
         count = omega (arith, st.count);
         words =
-            ap (λ (l : List ℕ). take (depth + 1) l) (part-set_lem (stack_at s) (stack_size s) scratch depth (frame_word f) (omega arith))
+            ap (λ (l : List ℕ). take (depth + 1) l) (part-set (stack_at s) (stack_size s) scratch depth (frame_word f) (omega arith))
             ∙ ap (λ (d : ℕ). take d (set (stack_of s scratch) depth (frame_word f))) (add-one depth)
             ∙ take-suc-set (stack_of s scratch) depth (frame_word f)
             (omega (arith, part_length (stack_at s) (stack_size s) scratch (omega (arith, r.long))))
@@ -151,4 +151,4 @@ module _ {s : Shape} {gates : List ℕ} {made : ℕ} {w : Work} {map out scratch
   pub holds_pushed : (i v : ℕ) → Holds s gates made w map out (set scratch (stack_at s + i) v)
   holds_pushed i v =
       scratch_other (set scratch (stack_at s + i) v) (length-set scratch (stack_at s + i) v) (take-set-le s.vars scratch (stack_at s + i) v (omega arith))
-      (part-after_lem (links_at s) (links_size s) scratch (stack_at s + i) v (omega arith))
+      (part-after (links_at s) (links_size s) scratch (stack_at s + i) v (omega arith))

@@ -34,19 +34,19 @@ use Rattle.aig.proofs.Bounds.{input_low, output_low, state_low}
 use Rattle.aig.proofs.Defining.{defines, tables}
 
 -- a front of zeros
-take-zeros_lem : (j k : ℕ) (ys : List ℕ) → j ≤ k → take j (zeros k ++ ys) ≡ zeros j
-take-zeros_lem zero k ys h = refl
-take-zeros_lem (suc j) zero ys h = absurd (omega arith)
-take-zeros_lem (suc j) (suc k) ys h = ap {B = List ℕ} (λ t. 0 ∷ t) (take-zeros_lem j k ys (omega arith))
+take-zeros : (j k : ℕ) (ys : List ℕ) → j ≤ k → take j (zeros k ++ ys) ≡ zeros j
+take-zeros zero k ys h = refl
+take-zeros (suc j) zero ys h = absurd (omega arith)
+take-zeros (suc j) (suc k) ys h = ap {B = List ℕ} (λ t. 0 ∷ t) (take-zeros j k ys (omega arith))
 
-drop-zeros_lem : (j k : ℕ) (ys : List ℕ) → j ≤ k → drop j (zeros k ++ ys) ≡ zeros (k - j) ++ ys
-drop-zeros_lem zero k ys h = let e : k ≡ k - 0 = omega arith in ap (λ (i : ℕ). zeros i ++ ys) e
-drop-zeros_lem (suc j) zero ys h = absurd (omega arith)
-drop-zeros_lem (suc j) (suc k) ys h = let e : k - j ≡ suc k - suc j = omega arith in drop-zeros_lem j k ys (omega arith) ∙ ap (λ (i : ℕ). zeros i ++ ys) e
+drop-zeros : (j k : ℕ) (ys : List ℕ) → j ≤ k → drop j (zeros k ++ ys) ≡ zeros (k - j) ++ ys
+drop-zeros zero k ys h = let e : k ≡ k - 0 = omega arith in ap (λ (i : ℕ). zeros i ++ ys) e
+drop-zeros (suc j) zero ys h = absurd (omega arith)
+drop-zeros (suc j) (suc k) ys h = let e : k - j ≡ suc k - suc j = omega arith in drop-zeros j k ys (omega arith) ∙ ap (λ (i : ℕ). zeros i ++ ys) e
 
 -- zeros over a list that is long enough
-onto-zeros_lem : (k : ℕ) (ys : List ℕ) → k ≤ length ys → onto (zeros k) ys ≡ zeros k ++ drop k ys
-onto-zeros_lem k ys h = onto_long (zeros k) ys (omega (arith, length-replicate {A = ℕ} k 0)) ∙ ap (λ (j : ℕ). zeros k ++ drop j ys) (length-replicate k 0)
+onto-zeros : (k : ℕ) (ys : List ℕ) → k ≤ length ys → onto (zeros k) ys ≡ zeros k ++ drop k ys
+onto-zeros k ys h = onto_long (zeros k) ys (omega (arith, length-replicate {A = ℕ} k 0)) ∙ ap (λ (j : ℕ). zeros k ++ drop j ys) (length-replicate k 0)
 
 -- a list of two parts, cut between them
 cut : (x p q : List ℕ) (k : ℕ) → x ≡ p ++ q → length p ≡ k → (take k x ≡ p) × (drop k x ≡ q)
@@ -142,10 +142,10 @@ module _ {l : Lent} {words out scratch : List ℕ} (x : WalkIn l words out scrat
     clean_is : cleaned n l.gates scratch ≡ zeros k ++ drop k scratch
     clean_is =
         let w : 3 * n + 3 * (length l.gates / 3) ≡ k = omega (arith, gates_length l.gates) in
-        ap (λ (j : ℕ). onto (zeros j) scratch) w ∙ onto-zeros_lem k scratch x.scratch_long
+        ap (λ (j : ℕ). onto (zeros j) scratch) w ∙ onto-zeros k scratch x.scratch_long
 
     blank : take n (cleaned n l.gates scratch) ≡ zeros n
-    blank = ap (take n) clean_is ∙ take-zeros_lem n k (drop k scratch) (omega arith)
+    blank = ap (take n) clean_is ∙ take-zeros n k (drop k scratch) (omega arith)
 
     opened : ready_of r m o s ≡ with_table n J l.inputs l.states l.gates words out scratch
     unfolding prepared
@@ -163,7 +163,7 @@ module _ {l : Lent} {words out scratch : List ℕ} (x : WalkIn l words out scrat
     scratch_is : s ≡ J.words ++ (zeros (k - n) ++ drop k scratch)
     scratch_is =
         ap (λ (y : Ready). y.scratch) opened
-        ∙ ap (λ (t : List ℕ). J.words ++ t) (ap (drop n) clean_is ∙ drop-zeros_lem n k (drop k scratch) (omega arith))
+        ∙ ap (λ (t : List ℕ). J.words ++ t) (ap (drop n) clean_is ∙ drop-zeros n k (drop k scratch) (omega arith))
 
     -- each front, and what stood past it
     map_parts : (take n m ≡ begun (take n words) l.inputs l.states) × (drop n m ≡ drop n words)
@@ -175,7 +175,7 @@ module _ {l : Lent} {words out scratch : List ℕ} (x : WalkIn l words out scrat
     out_parts =
         let w : 2 * (length l.gates / 3) ≡ 2 * G = omega (arith, gates_length l.gates) in
         cut o (zeros (2 * G)) _ (2 * G)
-        (ap (λ (y : Ready). y.out) opened ∙ ap (λ (j : ℕ). onto (zeros j) out) w ∙ onto-zeros_lem (2 * G) out x.out_long)
+        (ap (λ (y : Ready). y.out) opened ∙ ap (λ (j : ℕ). onto (zeros j) out) w ∙ onto-zeros (2 * G) out x.out_long)
         (length-replicate (2 * G) 0)
 
     table_long : length J.words ≡ n

@@ -71,8 +71,8 @@ module _ (l : Lent) (flat : List ℕ) (p : Tested l) where
   answered_late r true e n = absurd (true≢false n)
   answered_late r false e n = ap (λ (b : Bool). cond b flat (onto (zeros (length l.gates)) flat)) e
 
-  pub cleared-after_lem : flat_after l (outcome l).answer flat ≡ onto (zeros (length l.gates)) flat
-  cleared-after_lem = go (conclusion l) refl (concluded l)
+  pub cleared-after : flat_after l (outcome l).answer flat ≡ onto (zeros (length l.gates)) flat
+  cleared-after = go (conclusion l) refl (concluded l)
     where
       go : (o : Out) → conclusion l ≡ o → Concluded l o → flat_after l (outcome l).answer flat ≡ onto (zeros (length l.gates)) flat
       go (reached w) e k = ap (λ (o : Outcome). flat_after l o.answer flat) (success_of l w e)
@@ -136,7 +136,7 @@ module _ (l : Lent) (flat : List ℕ) where
       go false p false q false r false none e (some c) h = early (Reset (literal c)) refl (stops_22 (record { one = p; two = q; three = r }) e c h)
       go false p false q false r false none e none h =
           ap (with_flat (outcome l))
-          (cleared-after_lem l flat (record { fits = record { one = p; two = q; three = r }; four = e; twenty_two = h }))
+          (cleared-after l flat (record { fits = record { one = p; two = q; three = r }; four = e; twenty_two = h }))
 
 module _ (circuit : CircuitRecord) (inputs states nexts resets : List ℕ) (gates : List GateRecord)
     (roots map next_images reset_images root_images gates_out scratch flat : List ℕ) where

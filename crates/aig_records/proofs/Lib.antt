@@ -1,8 +1,5 @@
 pub mod Flat
 pub mod Overs
 pub mod Judging
-pub mod Turns
-pub mod Asked
-pub mod Again
 pub mod Joined
 pub mod Theorems

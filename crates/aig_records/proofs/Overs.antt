@@ -9,7 +9,7 @@ use native.Mathlib.Omega.{arith}
 use native.Mathlib.Numerals.{add-one}
 use lib.Dec.{leb, ltb}
 use lib.ListN.{length, get_or, take}
-use lib.Seq.{take-suc, take-length}
+use lib.Seq.{take-suc}
 use borrow.Author.Tests.{lt-ltb, le-ltb}
 use Rattle.lit.specs.Code.{literal}
 use Rattle.lit.specs.declared.Var.{Var}
@@ -55,15 +55,12 @@ over-append t (x ∷ xs) ys = go (leb x (2 * t + 1)) (over-append t xs ys)
     go true e = e
     go false e = refl
 
--- one record more, and all of them
+-- one record more
 pub over_more : (top : Var) (ys : List GateRecord) (i : ℕ) → i < length ys
     → or_else (over_in top (take i ys)) (over_in top (get_or ys i no_gate ∷ [])) ≡ over_in top (take (i + 1) ys)
 over_more top ys i h =
     sym (ap (λ (k : ℕ). over_in top (take k ys)) (add-one i) ∙ ap (over_in top) (take-suc ys i no_gate h)
     ∙ ap (first_in top.0) (flat_append (take i ys) (get_or ys i no_gate ∷ [])) ∙ over-append top.0 (flat_of (take i ys)) (flat_of (get_or ys i no_gate ∷ [])))
-
-pub over_all_lem : (top : Var) (ys : List GateRecord) → over_in top (take (length ys) ys) ≡ over_in top ys
-over_all_lem top ys = ap (over_in top) (take-length ys)
 
 -- a record's three literals, one law for each answer of the code
 module _ (top : Var) (g : GateRecord) where

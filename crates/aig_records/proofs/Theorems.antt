@@ -29,7 +29,7 @@ use Rattle.circuit.proofs.Outcome.{refusal_from}
 use Rattle.aig_records.specs.Records.{flat_of}
 use Rattle.aig_records.specs.Outcome.{FlatOutcome, with_flat, flat_short, flat_after, outcome_of_records}
 use Rattle.aig_records.specs.Determined.{DeterminesSeen}
-use Rattle.aig_records.proofs.Joined.{early, cleared-after_lem}
+use Rattle.aig_records.proofs.Joined.{early, cleared-after}
 use Rattle.aig_records.specs.contracts.renumber_records as entry
 
 -- a record's codes stand output, first, second
@@ -69,7 +69,7 @@ module _ (l : Lent) (flat : List ℕ) where
 
   -- where they pass, the words that the records took are 0 afterwards, and the others are kept
   pub cleared_where_passed : Passes l → length l.gates ≤ length flat → (outcome_of_records l flat).flat ≡ onto (zeros (length l.gates)) flat
-  cleared_where_passed p h = ap (λ (o : FlatOutcome). o.flat) (with_room h) ∙ cleared-after_lem l flat (tested l p)
+  cleared_where_passed p h = ap (λ (o : FlatOutcome). o.flat) (with_room h) ∙ cleared-after l flat (tested l p)
 
   -- the six lists and the answer are all that the customer demands, of the records laid flat
   pub records_demands : length l.gates ≤ length flat → Demands l (circuit_of l) (outcome_of_records l flat).outcome

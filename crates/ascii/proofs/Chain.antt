@@ -25,7 +25,7 @@ use Rattle.circuit.specs.Demands.{AfterSuccess}
 use Rattle.circuit.proofs.Demands.{demands}
 use Rattle.circuit.proofs.Checks.{no_stray}
 use Rattle.circuit.proofs.Listed.{of_bounded}
-use Rattle.circuit.proofs.Outcome.{WhyLent, from_within, from_agrees, from_roomy, Concluded, concluded, refusal_from, conclusion_of, onto-take_lem}
+use Rattle.circuit.proofs.Outcome.{WhyLent, from_within, from_agrees, from_roomy, Concluded, concluded, refusal_from, conclusion_of, onto-take}
 use Rattle.lines.specs.Reading.{Read, got, no}
 use Rattle.ordered.specs.Expand.{gate_words}
 use Rattle.ordered.proofs.Laid.{gates_of_words}
@@ -63,22 +63,22 @@ module _ (t : Text) (used : ℕ) (g : Lending) (known : Known (room_of g.text) t
 
   -- what is handed over is the circuit of the text, list by list
   inputs : l.inputs ≡ t.inputs
-  inputs = onto-take_lem t.inputs g.text.inputs (length t.inputs) refl known.inputs_fit
+  inputs = onto-take t.inputs g.text.inputs (length t.inputs) refl known.inputs_fit
 
   states : l.states ≡ t.states
-  states = onto-take_lem t.states g.text.states (length t.states) refl known.states_fit
+  states = onto-take t.states g.text.states (length t.states) refl known.states_fit
 
   nexts : l.nexts ≡ t.nexts
-  nexts = onto-take_lem t.nexts g.text.nexts (length t.states) known.nexts (omega (arith, known.nexts, known.nexts_fit))
+  nexts = onto-take t.nexts g.text.nexts (length t.states) known.nexts (omega (arith, known.nexts, known.nexts_fit))
 
   resets : l.resets ≡ t.resets
-  resets = onto-take_lem t.resets g.text.resets (length t.states) known.resets (omega (arith, known.resets, known.resets_fit))
+  resets = onto-take t.resets g.text.resets (length t.states) known.resets (omega (arith, known.resets, known.resets_fit))
 
   words : l.gates ≡ gate_words t.gates
-  words = onto-take_lem (gate_words t.gates) g.text.gates (3 * length t.gates) (words_length t.gates) known.gates_fit
+  words = onto-take (gate_words t.gates) g.text.gates (3 * length t.gates) (words_length t.gates) known.gates_fit
 
   roots : l.roots ≡ t.roots
-  roots = onto-take_lem t.roots g.text.roots (total t.counts) (sym known.roots) (omega (arith, known.roots, known.roots_fit))
+  roots = onto-take t.roots g.text.roots (total t.counts) (sym known.roots) (omega (arith, known.roots, known.roots_fit))
 
   same : circuit_of l ≡ circuit
   same = alike inputs states nexts resets (ap gates_of words ∙ gates_of_words t.gates) roots

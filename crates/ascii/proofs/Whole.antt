@@ -215,8 +215,8 @@ pub record Announced (h : Header) (t : Text) : Type 0 where
   pub counts : t.counts ≡ counts_of h t.sizes
   pub sets : length t.sizes ≡ h.justice
 
-pub lists-announced_lem : (s : List ℕ) (room : ℕ) (h : Header) (at : ℕ) (t : Text) (end : ℕ) → lists_at s room h at ≡ got t end → Announced h t
-lists-announced_lem s room h at t end e =
+pub lists-announced : (s : List ℕ) (room : ℕ) (h : Header) (at : ℕ) (t : Text) (end : ℕ) → lists_at s room h at ≡ got t end → Announced h t
+lists-announced s room h at t end e =
     let p = sections s room h at t end e in
     let most = top_code h in
     subst (Announced h) p.made
@@ -235,7 +235,7 @@ pub body_announced : (s : List ℕ) (room : Room) (h : Header) (at : ℕ) (t : T
 unfolding body_at
 body_announced s room h at t end e =
     let u = two (sized_at h room at) (λ _ at₁. lists_at s room.roots h at₁) t end e in
-    lists-announced_lem s room.roots h u.place t end u.then
+    lists-announced s room.roots h u.place t end u.then
 
 -- header and body
 

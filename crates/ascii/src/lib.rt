@@ -109,7 +109,7 @@ fn lists(
       roots = roots.old;
     }))) }
     ensures { StoresText (lists_at s.now (length roots.old) h at) result (record {
-      inputs = inputs.entry.now;
+      inputs = inputs.old;
       states = states.old;
       nexts = nexts.old;
       resets = resets.old;
@@ -117,7 +117,7 @@ fn lists(
       sizes = sizes.old;
       roots = roots.old;
     }) (record {
-      inputs = inputs.exit.now;
+      inputs = inputs.new;
       states = states.new;
       nexts = nexts.new;
       resets = resets.new;
@@ -181,7 +181,7 @@ fn body(
 ) -> Reading
     requires { Within h }
     ensures { StoresText (body_at s.now (room_of (record {
-      inputs = inputs.entry.now;
+      inputs = inputs.old;
       states = states.old;
       nexts = nexts.old;
       resets = resets.old;
@@ -189,7 +189,7 @@ fn body(
       sizes = sizes.old;
       roots = roots.old;
     })) h at) result (record {
-      inputs = inputs.entry.now;
+      inputs = inputs.old;
       states = states.old;
       nexts = nexts.old;
       resets = resets.old;
@@ -197,7 +197,7 @@ fn body(
       sizes = sizes.old;
       roots = roots.old;
     }) (record {
-      inputs = inputs.exit.now;
+      inputs = inputs.new;
       states = states.new;
       nexts = nexts.new;
       resets = resets.new;
@@ -237,7 +237,7 @@ fn refused(
     roots: &mut [u32],
 ) -> TextRead
     ensures { seen result (record {
-      inputs = inputs.exit.now;
+      inputs = inputs.new;
       states = states.new;
       nexts = nexts.new;
       resets = resets.new;
@@ -245,7 +245,7 @@ fn refused(
       sizes = sizes.new;
       roots = roots.new;
     }) ≡ left (no why place) (record {
-      inputs = inputs.entry.now;
+      inputs = inputs.old;
       states = states.old;
       nexts = nexts.old;
       resets = resets.old;
@@ -286,7 +286,7 @@ pub fn read(
     roots: &mut [u32],
 ) -> TextRead
     ensures { seen result (record {
-      inputs = inputs.exit.now;
+      inputs = inputs.new;
       states = states.new;
       nexts = nexts.new;
       resets = resets.new;
@@ -294,7 +294,7 @@ pub fn read(
       sizes = sizes.new;
       roots = roots.new;
     }) ≡ outcome bytes.now (record {
-      inputs = inputs.entry.now;
+      inputs = inputs.old;
       states = states.old;
       nexts = nexts.old;
       resets = resets.old;

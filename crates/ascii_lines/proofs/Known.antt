@@ -30,8 +30,8 @@ record Literal (most v : ℕ) : Type 0 where
   some : 1 ≤ v
   even : v % 2 ≡ 0
 
-defined-literal_lem : (s : List ℕ) (most at v end : ℕ) → defined_at s most at ≡ got v end → Literal most v
-defined-literal_lem s most at v end e =
+defined-literal : (s : List ℕ) (most at v end : ℕ) → defined_at s most at ≡ got v end → Literal most v
+defined-literal s most at v end e =
     let d = defined_number s most at v end e in
     record { within = number_within s most at v end d.0; some = d.1; even = d.2 }
 
@@ -42,7 +42,7 @@ unfolding input_at
 input_literal s most at v end e =
     let t = two (defined_at s most at) (λ w at₁. newline_at s at₁ ▸ λ _ at₂. got w at₂) v end e in
     let u = two (newline_at s t.place) (λ _ at₂. got t.first at₂) v end t.then in
-    subst (Literal most) (got_same u.then) (defined-literal_lem s most at t.first t.place t.read)
+    subst (Literal most) (got_same u.then) (defined-literal s most at t.first t.place t.read)
 
 module _ (s : List ℕ) (most n at : ℕ) (vs : List ℕ) (end : ℕ) (e : inputs_at s most n at ≡ got vs end) where
   inputs_each : (v : ℕ) → In v vs → Literal most v
@@ -75,7 +75,7 @@ stated_sound s most at l end e =
     let u = two (space_at s t.place) (λ _ at₂. latch_at s most t.first at₂ ▸ λ k at₃. got (stated_latch t.first k.next k.reset) at₃) l end
     t.then in
     let v = two (latch_at s most t.first u.place) (λ k at₃. got (stated_latch t.first k.next k.reset) at₃) l end u.then in
-    made t.first u.place v.first v.place (defined-literal_lem s most at t.first t.place t.read) v.read v.then
+    made t.first u.place v.first v.place (defined-literal s most at t.first t.place t.read) v.read v.then
   where
     made : (state p : ℕ) (k : LatchLine) (q : ℕ) → Literal most state → latch_at s most state p ≡ got k q
         → got (stated_latch state k.next k.reset) q ≡ got l end → Sound most l
@@ -140,7 +140,7 @@ gate_whole s most at g end e =
     (λ first at₁. count_at s most at₁ ▸ λ second at₂. newline_at s at₂ ▸ λ _ at₃. got (gate_with t.first first second) at₃) g end t.then in
     let v = two (count_at s most u.place) (λ second at₂. newline_at s at₂ ▸ λ _ at₃. got (gate_with t.first u.first second) at₃) g end u.then in
     let w = two (newline_at s v.place) (λ _ at₃. got (gate_with t.first u.first v.first) at₃) g end v.then in
-    made t.first u.first v.first w.place (defined-literal_lem s most at t.first t.place t.read)
+    made t.first u.first v.first w.place (defined-literal s most at t.first t.place t.read)
     (count_within s most t.place u.first u.place u.read) (count_within s most u.place v.first v.place v.read) w.then
   where
     made : (output first second q : ℕ) → Literal most output → first ≤ most → second ≤ most → got (gate_with output first second) q ≡ got g end

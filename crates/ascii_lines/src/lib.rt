@@ -154,11 +154,11 @@ fn latches_into(
     resets: &mut [u32],
 ) -> Ended
     ensures { Stores put_latches (latches_at s.now limit n at) result (record {
-      states = states.entry.now;
+      states = states.old;
       nexts = nexts.old;
       resets = resets.old;
     }) (record {
-      states = states.exit.now;
+      states = states.new;
       nexts = nexts.new;
       resets = resets.new;
     }) }
@@ -200,11 +200,11 @@ pub fn latches(
     resets: &mut [u32],
 ) -> Ended
     ensures { section_seen result (record {
-      states = states.exit.now;
+      states = states.new;
       nexts = nexts.new;
       resets = resets.new;
     }) ≡ section_left put_latches no_latches (latches_at s.now limit n at) (record {
-      states = states.entry.now;
+      states = states.old;
       nexts = nexts.old;
       resets = resets.old;
     }) }

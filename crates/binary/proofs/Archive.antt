@@ -9,7 +9,7 @@ use lib.Dec.{ltb}
 use lib.ListN.{length, get_or, take}
 use borrow.Author.Tests.{le-ltb}
 use Rattle.circuit.specs.Outcome.{onto}
-use Rattle.circuit.proofs.Outcome.{onto-take_lem}
+use Rattle.circuit.proofs.Outcome.{onto-take}
 use Rattle.lines.specs.Reading.{Read, got}
 use Rattle.ordered.specs.declared.given.Fault.TheVariants.{Short}
 use Rattle.binary.specs.declared.FileWritten.TheVariants.{Written, Unwritten}
@@ -42,7 +42,7 @@ module _ (f : File) (sound : Sound f) where
           let all : archiving f out ≡ wrote (Written (length (file_of f))) (onto (file_of f) out)
           = sound_written f sound out ∙ rw (le-ltb (length out) (length (file_of f)) enough) in
           let bytes : take (length (file_of f)) (archiving f out).bytes ≡ file_of f
-          = ap (λ (w : Writing). take (length (file_of f)) w.bytes) all ∙ onto-take_lem (file_of f) out (length (file_of f)) refl enough in
+          = ap (λ (w : Writing). take (length (file_of f)) w.bytes) all ∙ onto-take (file_of f) out (length (file_of f)) refl enough in
           let read : read_file (file_of f) room ≡ got f (length (file_of f))
           = ap (λ (s : List ℕ). read_file s room) (sym (append-nil (file_of f))) ∙ reads_back_lem f sound room holds [] in
           record {

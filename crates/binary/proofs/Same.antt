@@ -206,19 +206,19 @@ module _ (room : Room) (f : File) (v : List ℕ) (t : Body room f v) where
       told_of ours (ap (λ (l : List ℕ). tag ++ l) theirs)
       (told_behind tag (told_both header (told_both latches (told_behind (roots_bytes h roots) deltas))))
 
-plain-told_lem : (room : Room) (f : File) (w : List ℕ) (t : Spells room f w) → Told (Plain room f w t) (file_of f) w
-plain-told_lem room f w (v, e, t) =
+plain-told : (room : Room) (f : File) (w : List ℕ) (t : Spells room f w) → Told (Plain room f w t) (file_of f) w
+plain-told room f w (v, e, t) =
     told_of refl e
     (told_for {P = AllPlain room f v t} (λ p. record { options = p.0; resets = p.1.0; deltas = p.1.1 }) (λ p. (p.options, (p.resets, p.deltas)))
     (parts_told room f v t))
 
 -- a spelling is ours exactly where it is plain
 pub plain_exactly : (room : Room) (f : File) (w : List ℕ) (t : Spells room f w) → (w ≡ file_of f) ↔ Plain room f w t
-plain_exactly room f w t = told_exactly (plain-told_lem room f w t)
+plain_exactly room f w t = told_exactly (plain-told room f w t)
 
 -- no spelling is shorter than ours, and one as long is ours
 pub file_least : (room : Room) (f : File) (w : List ℕ) → Spells room f w → Least (file_of f) w
-file_least room f w t = told_least (plain-told_lem room f w t)
+file_least room f w t = told_least (plain-told room f w t)
 
 -- what was read
 

@@ -8,7 +8,7 @@ use lib.ListN.{length, take}
 use Rattle.circuit.specs.Outcome as C
 use Rattle.circuit.specs.Outcome.{Lent, circuit_of, total, pair_words}
 use Rattle.circuit.specs.Claims.{Roomy}
-use Rattle.circuit.proofs.Outcome.{onto-take_lem}
+use Rattle.circuit.proofs.Outcome.{onto-take}
 use Rattle.lines.specs.Reading.{Read, got, no}
 use Rattle.ordered.specs.declared.Expansion.TheVariants.{Expanded}
 use Rattle.ordered.specs.Expand as E
@@ -42,19 +42,19 @@ module _ (bytes : List ℕ) (f : File) (used : ℕ) (g : Lending) (known : Known
         circuit = refl;
         inputs = refl;
         states = refl;
-        nexts = onto-take_lem f.ordered.nexts g.file.nexts (length f.ordered.nexts) refl known.nexts_fit;
+        nexts = onto-take f.ordered.nexts g.file.nexts (length f.ordered.nexts) refl known.nexts_fit;
         resets =
-            onto-take_lem f.ordered.resets g.file.resets (length f.ordered.nexts) (sym known.well_ordered.reset_count)
+            onto-take f.ordered.resets g.file.resets (length f.ordered.nexts) (sym known.well_ordered.reset_count)
             (omega (arith, known.well_ordered.reset_count, known.resets_fit));
         gates = refl;
-        roots = onto-take_lem f.ordered.roots g.file.roots (total f.ordered.counts) (sym counts) (omega (arith, counts, known.roots_fit));
+        roots = onto-take f.ordered.roots g.file.roots (total f.ordered.counts) (sym counts) (omega (arith, counts, known.roots_fit));
       }
 
   -- its gates are expanded from the words that reading left
   expands : x ≡ E.expansion f.ordered.inputs (length f.ordered.nexts) (pair_words f.ordered.gates) g.codes
   expands =
       ap (λ (ws : List ℕ). E.expansion f.ordered.inputs (length f.ordered.nexts) ws g.codes)
-      (onto-take_lem (pair_words f.ordered.gates) g.file.gates (2 * length f.ordered.gates) (words_length f.ordered.gates) known.gates_fit)
+      (onto-take (pair_words f.ordered.gates) g.file.gates (2 * length f.ordered.gates) (words_length f.ordered.gates) known.gates_fit)
 
   filled : x.answer ≡ Expanded
   filled =

@@ -106,14 +106,14 @@ pub extern "C" fn imdagluz_read_aig(
 ) -> u32
     ensures { file_seen (record {
       number = result;
-      nexts = nexts.exit.now;
+      nexts = nexts.new;
       resets = resets.new;
       gates = gates.new;
       sizes = sizes.new;
       roots = roots.new;
       words = answer.new;
     }) ≡ read_seen bytes.now (record {
-      nexts = nexts.entry.now;
+      nexts = nexts.old;
       resets = resets.old;
       gates = gates.old;
       sizes = sizes.old;

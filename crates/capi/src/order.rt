@@ -29,7 +29,7 @@ pub extern "C" fn imdagluz_order(
       number = result;
       lists = record {
         file = record {
-          nexts = nexts.exit.now;
+          nexts = nexts.new;
           resets = resets.new;
           gates = gates.new;
           sizes = sizes.new;
@@ -41,7 +41,7 @@ pub extern "C" fn imdagluz_order(
           triples = triples.new;
         };
         images = record {
-          map = map.exit.now;
+          map = map.new;
           next_images = next_images.new;
           reset_images = reset_images.new;
           root_images = root_images.new;
@@ -53,7 +53,7 @@ pub extern "C" fn imdagluz_order(
       words = answer.new;
     }) ≡ ordering_seen bytes.now flags (record {
       file = record {
-        nexts = nexts.entry.now;
+        nexts = nexts.old;
         resets = resets.old;
         gates = gates.old;
         sizes = sizes.old;
@@ -65,7 +65,7 @@ pub extern "C" fn imdagluz_order(
         triples = triples.old;
       };
       images = record {
-        map = map.entry.now;
+        map = map.old;
         next_images = next_images.old;
         reset_images = reset_images.old;
         root_images = root_images.old;

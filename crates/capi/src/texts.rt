@@ -19,7 +19,7 @@ pub extern "C" fn imdagluz_read_aag(
 ) -> u32
     ensures { text_seen (record {
       number = result;
-      inputs = inputs.exit.now;
+      inputs = inputs.new;
       states = states.new;
       nexts = nexts.new;
       resets = resets.new;
@@ -28,7 +28,7 @@ pub extern "C" fn imdagluz_read_aag(
       roots = roots.new;
       words = answer.new;
     }) ≡ read_text_seen bytes.now (record {
-      inputs = inputs.entry.now;
+      inputs = inputs.old;
       states = states.old;
       nexts = nexts.old;
       resets = resets.old;

@@ -13,9 +13,9 @@ use Rattle.circuit.specs.Claims.{IsReset, AllReset, first_value}
 use Rattle.circuit.proofs.Ordered.{count_from-length, count_from_get_d}
 use Rattle.circuit.proofs.Tests.{AtMost, at_most, above, le_test, Same, same, other, same_test}
 
-pub carried-length_lem : (t : ℕ) (rs : List ℕ) → length (carried_from t rs) ≡ length rs
-carried-length_lem t [] = refl
-carried-length_lem t (r ∷ rs) = ap suc (carried-length_lem (t + 2) rs)
+pub carried-length : (t : ℕ) (rs : List ℕ) → length (carried_from t rs) ≡ length rs
+carried-length t [] = refl
+carried-length t (r ∷ rs) = ap suc (carried-length (t + 2) rs)
 
 pub carried_at : (t : ℕ) (rs : List ℕ) (j : ℕ) → j < length rs → get_or (carried_from t rs) j 0 ≡ carried (t + 2 * j) (get_or rs j 0)
 carried_at t [] j h = absurd (omega arith)

@@ -24,7 +24,7 @@ use Rattle.circuit.specs.Claims.{HasImage, Named, Folds, image_after, larger_aft
 use Rattle.circuit.proofs.Tests.{lt_or, Same, same, other, same_test}
 use Rattle.circuit.proofs.Rows.{RowIf, takes_if, leaves_if, row_if}
 use Rattle.circuit.proofs.Renumber.{Done}
-use Rattle.circuit.proofs.Carried.{carried-length_lem, carried_at}
+use Rattle.circuit.proofs.Carried.{carried-length, carried_at}
 use Rattle.circuit.proofs.Words.{pairs_length, pairs_larger, pairs_smaller}
 use Rattle.circuit.proofs.Outcome.{agrees, roomy, success_of, onto_at}
 use Rattle.circuit.proofs.Lengths.{filled, keeps_past}
@@ -218,7 +218,7 @@ module _ (l : Lent) (w : Work) (e : conclusion l ≡ reached w) where
 
     carry_length : length carry ≡ length C.states
     unfolding carry
-    carry_length = carried-length_lem (first_latch (length C.inputs)) C.resets ∙ sym resets
+    carry_length = carried-length (first_latch (length C.inputs)) C.resets ∙ sym resets
 
     reset_word : (j : ℕ) → j < length C.states → get_or (outcome l).reset_images j 0 ≡ get_or carry j 0
     unfolding ordered_of carry
@@ -276,7 +276,7 @@ module _ (l : Lent) (w : Work) (e : conclusion l ≡ reached w) where
               (ap (λ (o : Outcome). get_or o.next_images j 0) (success_of l w e)
               ∙ onto_at (images_in w.images C.nexts) l.next_images j 0 (omega (arith, images_length C.nexts, latches))
               (omega (arith, images_length C.nexts, latches, room.nexts)));
-          reset_count = carried-length_lem (first_latch (length C.inputs)) C.resets ∙ sym resets;
+          reset_count = carried-length (first_latch (length C.inputs)) C.resets ∙ sym resets;
           resets = λ j h. sym (subst (λ (x : List ℕ). get_or (outcome l).reset_images j 0 ≡ get_or x j 0) carry_is (reset_word j h));
           made = sym sums;
           gates = λ j h. let i : j < length w.made = omega arith in ap₂ pair (sym (larger_word j i)) (sym (smaller_word j i));

@@ -16,7 +16,7 @@ use Rattle.circuit.specs.Walk.{Net, source_count, Pair, first_code, folded}
 use Rattle.circuit.specs.Ordered.{no_pair, InOrder, flip_if}
 use Rattle.circuit.proofs.Tests.{le_or, Same, same, other, same_test}
 use Rattle.circuit.proofs.Meaning.{flip_if_twice, flip_if_false}
-use Rattle.circuit.proofs.Values.{val-zero, val-one, val_source, val-flipped_lem, val_gate}
+use Rattle.circuit.proofs.Values.{val-zero, val-one, val_source, val-flipped, val_gate}
 use Rattle.circuit.proofs.Settle.{and_comm}
 use Rattle.circuit.specs.Invariant.{like, Reads, by_constant, by_source, by_gate, val, entry, code_in}
 
@@ -42,10 +42,10 @@ module _ (N : Net) (m : List ℕ) (made : List Pair) (r : Rule N m made) (order 
   alike : (c d : ℕ) → var c ≡ var d → bit (code_in m c) ≡ like c d (bit (code_in m d))
   unfolding like
   alike c d e =
-      val-flipped_lem (source_count N) given made (entry m (var c)) c
+      val-flipped (source_count N) given made (entry m (var c)) c
       ∙ ap (λ (v : ℕ). flip_if (is_odd c) (bit (entry m v))) e
       ∙ ap (flip_if (is_odd c)) (sym (flip_if_twice (is_odd d) (bit (entry m (var d))))
-      ∙ ap (flip_if (is_odd d)) (sym (val-flipped_lem (source_count N) given made (entry m (var d)) d)))
+      ∙ ap (flip_if (is_odd d)) (sym (val-flipped (source_count N) given made (entry m (var d)) d)))
 
   -- the larger and the smaller of two have the AND of the two
   and_sorted : (a b : ℕ) → bit (max a b) && bit (min a b) ≡ bit a && bit b
@@ -98,7 +98,7 @@ module _ (N : Net) (m : List ℕ) (made : List Pair) (r : Rule N m made) (order 
   -- what has an image keeps its value
   pub keeps : {c : ℕ} {b : Bool} → Reads N.graph given c b → entry m (var c) ≢ no_image → bit (code_in m c) ≡ b
   keeps {c} {b} (by_constant e f) n =
-      val-flipped_lem (source_count N) given made (entry m (var c)) c
+      val-flipped (source_count N) given made (entry m (var c)) c
       ∙ ap (λ (t : ℕ). flip_if (is_odd c) (bit t)) (ap (entry m) e ∙ r.zero_code_lem)
       ∙ ap (flip_if (is_odd c)) (val-zero (source_count N) given made) ∙ flip_if_false (is_odd c) ∙ sym f
   keeps {c} {b} (by_source k h e f) n =

@@ -22,7 +22,7 @@ use Rattle.circuit.specs.Outcome.{Lent, gates_of, circuit_of, limit}
 use Rattle.circuit.specs.Lending.{trimming, untouched_cell, circuit}
 use Rattle.circuit.specs.Demands.{AsDeepAsCanBe}
 use Rattle.circuit.proofs.Tests.{Same, same, other, same_test, lt_or, last_or}
-use Rattle.circuit.proofs.Map.{entry_other, entry-replicate_lem, no_image_lem}
+use Rattle.circuit.proofs.Map.{entry_other, entry-replicate, no_image_lem}
 
 -- the gates of the variables v to v + n, flat
 abbrev links : ℕ → ℕ → List ℕ
@@ -155,7 +155,7 @@ module _ (n : ℕ) where
   unfolding start
   no_images_lem i =
       no_image_lem begun.images (lit i)
-      (entry_other (replicate (n + 1 + 1) no_image) 0 0 (var (lit i)) (omega arith) ∙ entry-replicate_lem (n + 1 + 1) (var (lit i)))
+      (entry_other (replicate (n + 1 + 1) no_image) 0 0 (var (lit i)) (omega arith) ∙ entry-replicate (n + 1 + 1) (var (lit i)))
 
   -- the input of the gate that is entered is the next
   next_lit : (i : ℕ) → (i < n) ⊎ (n ≤ i) → (j : ℕ) → j ≡ min i n → 2 * (1 + min (j + 1) n) + (j + 1 - n) ≡ lit (suc i)

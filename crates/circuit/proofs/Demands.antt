@@ -7,7 +7,7 @@ pub use Rattle.circuit.proofs.Pins.{pins, limits_pinned, fields_pinned, ordered_
 pub use Rattle.circuit.proofs.Improvements.{improvements}
 pub use Rattle.circuit.proofs.Told.{told}
 pub use Rattle.circuit.proofs.Deepest.{as_deep_as_can_be}
-pub use Rattle.circuit.proofs.Resets.{resets_unseen, as_before, stray_exactly, reset_exactly, zeros-carried_lem}
+pub use Rattle.circuit.proofs.Resets.{resets_unseen, as_before, stray_exactly, reset_exactly, zeros-carried}
 use Prim.Native.Nat.{ℕ, ◌≤◌}
 use mathlib.Core.Path.{◌≡◌, sym, ◌∙◌, subst⁻¹}
 use mathlib.Core.Logic.{◌↔◌}
@@ -73,8 +73,8 @@ module _ (l : Lent) where
   pub tests_exactly : Tested l ↔ Passes l
   tests_exactly = (R.passes l, R.tested l)
 
-  after-success_lem : (s : Summary) → (outcome l).answer ≡ Renumbered s → AfterSuccess l C (outcome l) s (held l s (outcome l))
-  after-success_lem s e =
+  after-success : (s : Summary) → (outcome l).answer ≡ Renumbered s → AfterSuccess l C (outcome l) s (held l s (outcome l))
+  after-success s e =
       let from = S.success l s e in
       let sizes = S.sizes l s e in
       record {
@@ -99,7 +99,7 @@ module _ (l : Lent) where
         made_few = sizes.1;
         top = sizes.2;
         top_few = sizes.3;
-        codes_within = S.codes-within_lem l s e;
+        codes_within = S.codes-within l s e;
         constant_code = S.constant_code_lem l from.work from.ends;
         source_codes = S.source_code l from.work from.ends;
         gates_ruled = K.ruled l from.work from.ends s from.made;
@@ -118,7 +118,7 @@ module _ (l : Lent) where
         early_refusals_keep = R.early l;
         late_refusals_clear = R.late l;
         past_kept = keeps_past l;
-        success = after-success_lem;
+        success = after-success;
       }
 
   -- where no variable is defined twice, the walk of what passes checks 1 to 4 and 22 is never too deep: with two entries a gate it ends first, by success, 7 or 8, and

@@ -15,7 +15,7 @@ use Rattle.circuit.specs.Ordered.{images_in, count_from}
 use Rattle.circuit.specs.Invariant.{entry}
 use Rattle.circuit.proofs.Tests.{lt_or}
 use Rattle.circuit.proofs.Start.{store_from-length}
-use Rattle.circuit.proofs.Map.{entry_same, entry_other, entry-replicate_lem, store_length, code_image}
+use Rattle.circuit.proofs.Map.{entry_same, entry_other, entry-replicate, store_length, code_image}
 
 -- each variable below k goes to itself, and none of the others has an image
 pub record Identity (m : List ℕ) (k : ℕ) : Type 0 where
@@ -55,7 +55,7 @@ unfolding start
 start_identity top n h =
     let z : 1 + n ≡ n + 1 = omega arith in
     let l = length-replicate (top + 1) no_image in
-    let empty : Identity (replicate (top + 1) no_image) 0 = record { low = λ v k. absurd (omega arith); high = λ v k. entry-replicate_lem (top + 1) v } in
+    let empty : Identity (replicate (top + 1) no_image) 0 = record { low = λ v k. absurd (omega arith); high = λ v k. entry-replicate (top + 1) v } in
     subst (Identity (store_from (store (replicate (top + 1) no_image) 0 0) 2 (count_from 2 n))) z
     (many_more n 1 (store (replicate (top + 1) no_image) 0 0) (omega (arith, l, store_length (replicate (top + 1) no_image) 0 0))
     (one_more (replicate (top + 1) no_image) 0 0 (omega arith) (omega (arith, l)) empty))

@@ -200,9 +200,9 @@ module _ (N : Net) (top : ℕ) (once : DefinedOnce N.graph) (sized : Sized N top
     seen : List ℕ
     seen = take (suc (length N.graph.gates)) (path ++ (c ∷ []))
 
-    seen-length_lem : length (map var seen) ≡ suc (length N.graph.gates)
+    seen-length : length (map var seen) ≡ suc (length N.graph.gates)
     unfolding seen
-    seen-length_lem =
+    seen-length =
         omega (
           arith,
           length-map seen var,
@@ -224,9 +224,9 @@ module _ (N : Net) (top : ℕ) (once : DefinedOnce N.graph) (sized : Sized N top
         subst (λ (u : ℕ). In u (map out_var N.graph.gates)) r.2
         (seen_gate r.0 (In-cases r.0 path (c ∷ []) (In-take r.0 (suc (length N.graph.gates)) (path ++ (c ∷ [])) r.1)))
 
-    seen-var_lem : (i : ℕ) → i < suc (length N.graph.gates) → get_or (map var seen) i 0 ≡ var (nth path c i)
+    seen-var : (i : ℕ) → i < suc (length N.graph.gates) → get_or (map var seen) i 0 ≡ var (nth path c i)
     unfolding seen
-    seen-var_lem i h = get_or-map var seen i 0 ∙ ap var (get_or-take (suc (length N.graph.gates)) (path ++ (c ∷ [])) i 0 h)
+    seen-var i h = get_or-map var seen i 0 ∙ ap var (get_or-take (suc (length N.graph.gates)) (path ++ (c ∷ [])) i 0 h)
 
     next : (i j : ℕ) → i < 2 * length N.graph.gates → j < 2 * length N.graph.gates → var (nth path c i) ≡ var (nth path c j)
         → nth path c (suc i) ≡ nth path c (suc j)
@@ -250,11 +250,11 @@ module _ (N : Net) (top : ℕ) (once : DefinedOnce N.graph) (sized : Sized N top
             (ap (nth path c) (let e : 2 * r.0 / 2 ≡ r.0 = omega arith in e) ∙ r.3)
 
         go : Distinct (map var seen) ⊎ Dup (map var seen) → ⊥
-        go (inl d) = omega (arith, pigeons (map var seen) (map out_var N.graph.gates) d seen_gates_lem, seen-length_lem, length-map N.graph.gates out_var)
+        go (inl d) = omega (arith, pigeons (map var seen) (map out_var N.graph.gates) d seen_gates_lem, seen-length, length-map N.graph.gates out_var)
         go (inr (dup i j l h e)) =
             met
-            (round (nth path c) (length N.graph.gates) next i j l (omega (arith, seen-length_lem))
-            (sym (seen-var_lem i (omega (arith, seen-length_lem))) ∙ e ∙ seen-var_lem j (omega (arith, seen-length_lem))))
+            (round (nth path c) (length N.graph.gates) next i j l (omega (arith, seen-length))
+            (sym (seen-var i (omega (arith, seen-length))) ∙ e ∙ seen-var j (omega (arith, seen-length))))
 
   -- where the path is one that the walk makes, there was room
   abbrev RoomFor : (path : List ℕ) (w : Work) (c : ℕ) → Out → Type 0

@@ -19,7 +19,7 @@ use Rattle.circuit.proofs.Tests.{le_or, Same, same, other, same_test}
 use Rattle.circuit.proofs.Map.{entry_same, entry_other, store_all, store_length, code_in_lem}
 use Rattle.circuit.proofs.Graph.{Grounded-gate, one_gate}
 use Rattle.circuit.proofs.Meaning.{reads_like}
-use Rattle.circuit.proofs.Values.{val-flipped_lem}
+use Rattle.circuit.proofs.Values.{val-flipped}
 use Rattle.circuit.proofs.Settle.{and_comm, Already, is_new, already_is, Placed, placed_old, placed_new}
 use Rattle.circuit.proofs.Settled.{settled_le, settled_more, settled_room}
 use Rattle.circuit.specs.Invariant.{like, Reads, by_gate, val, pair, Makes, Fresh, settled, Sized, BothMapped, larger_in, smaller_in, RuleFor, Unfolded, FromGate, Inv, entry, code_in}
@@ -40,7 +40,7 @@ lit_reads N top w i given c n =
     subst (λ (b : Bool). Reads N.graph given c b) e (reads_like c (sym (half_double (var c))) (i.reads given (var c) n))
   where
     e : like c (2 * var c) (val (source_count N) given w.made (entry w.images (var c))) ≡ val (source_count N) given w.made (code_in w.images c)
-    e = rw (odd_false (2 * var c) (omega arith), val-flipped_lem (source_count N) given w.made (entry w.images (var c)) c)
+    e = rw (odd_false (2 * var c) (omega arith), val-flipped (source_count N) given w.made (entry w.images (var c)) c)
 
 pub flipped_below : (t d n : ℕ) (made : List Pair) → t < next_code n made → flipped t d < next_code n made
 unfolding flipped next_code first_code
@@ -216,7 +216,7 @@ module _ (N : Net) (top : ℕ) (once : DefinedOnce N.graph) (sized : Sized N top
               by_place (λ v e. e ≢ no_image → Reads N.graph given (2 * v) (val (source_count N) given made' e))
               (λ n.
               subst⁻¹ (λ (b : Bool). Reads N.graph given (2 * out_var g) b)
-              (val-flipped_lem (source_count N) given made' t g.output ∙ ap (flip_if (is_odd g.output)) (pl.ands given)) (reads given))
+              (val-flipped (source_count N) given made' t g.output ∙ ap (flip_if (is_odd g.output)) (pl.ands given)) (reads given))
               (λ v o n.
               subst⁻¹ (λ (b : Bool). Reads N.graph given (2 * v) b) (pl.keep given (entry m v) (i.low v n)) (i.reads given v n));
           order = pl.order;

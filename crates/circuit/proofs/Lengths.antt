@@ -17,14 +17,14 @@ use Rattle.circuit.specs.Tested.{Fits}
 use Rattle.circuit.proofs.Settled.{settled_le}
 use Rattle.circuit.proofs.Renumber.{Done}
 use Rattle.circuit.proofs.Words.{pairs_length}
-use Rattle.circuit.proofs.Carried.{carried-length_lem}
-use Rattle.circuit.proofs.Outcome.{WhyLent, agrees, roomy, Concluded, concluded, onto-length_lem, onto_at, onto_past}
+use Rattle.circuit.proofs.Carried.{carried-length}
+use Rattle.circuit.proofs.Outcome.{WhyLent, agrees, roomy, Concluded, concluded, onto-length, onto_at, onto_past}
 
 same : (n : ℕ) (lent : List ℕ) → Keeps n lent lent
 same n lent = (refl, λ i h. refl)
 
 onto_keeps : (ws lent : List ℕ) (n : ℕ) → length ws ≡ n → n ≤ length lent → Keeps n lent (onto ws lent)
-onto_keeps ws lent n e h = (onto-length_lem ws lent, λ i k. onto_past ws lent i 0 (omega arith) (omega arith))
+onto_keeps ws lent n e h = (onto-length ws lent, λ i k. onto_past ws lent i 0 (omega arith) (omega arith))
 
 -- and with one word in all of it
 pub filled : (n word : ℕ) (lent : List ℕ) → n ≤ length lent → Keeps n lent (onto (replicate n word) lent) → Filled n word lent (onto (replicate n word) lent)
@@ -86,9 +86,9 @@ module _ (l : Lent) where
           settled_le w.images C.gates,
         )
 
-    after-success_lem : (w : Work) → Done C w → KeepsPast l C (written l C w.images (ordered_of C w))
+    after-success : (w : Work) → Done C w → KeepsPast l C (written l C w.images (ordered_of C w))
     unfolding ordered_of
-    after-success_lem w d =
+    after-success w d =
         record {
           map = onto_keeps w.images l.map (map_words C) d.inv.size room.map;
           nexts =
@@ -96,7 +96,7 @@ module _ (l : Lent) where
               (images_length w C.nexts ∙ sym (agrees l f.two).latches) room.nexts;
           resets =
               onto_keeps (carried_from (first_latch (length C.inputs)) C.resets) l.reset_images (length C.states)
-              (carried-length_lem (first_latch (length C.inputs)) C.resets ∙ sym (agrees l f.two).resets) room.resets;
+              (carried-length (first_latch (length C.inputs)) C.resets ∙ sym (agrees l f.two).resets) room.resets;
           roots = onto_keeps (images_in w.images C.roots) l.root_images (length C.roots) (images_length w C.roots) room.roots;
           gates =
               onto_keeps (pair_words w.made ++ zeros (2 * (length C.gates - length w.made))) l.gates_out (2 * length C.gates)
@@ -104,22 +104,22 @@ module _ (l : Lent) where
           scratch = zeros_keep (scratch_words C) l.scratch room.scratch;
         }
 
-  after-refusal_lem : (r : Refusal) → WhyLent l r → KeepsPast l C (after l (stopped r))
+  after-refusal : (r : Refusal) → WhyLent l r → KeepsPast l C (after l (stopped r))
   unfolding after
-  after-refusal_lem TooBig k = after_early TooBig
-  after-refusal_lem Misshapen k = after_early Misshapen
-  after-refusal_lem Short k = after_early Short
-  after-refusal_lem (Over d) k = after_early (Over d)
-  after-refusal_lem (Reset d) k = after_early (Reset d)
-  after-refusal_lem (Again d) k = after_late k.0.fits (Again d)
-  after-refusal_lem (StateAgain d) k = after_late k.0.fits (StateAgain d)
-  after-refusal_lem (Undefined d) k = after_late k.0.fits (Undefined d)
-  after-refusal_lem (Cycle d) k = after_late k.0.fits (Cycle d)
+  after-refusal TooBig k = after_early TooBig
+  after-refusal Misshapen k = after_early Misshapen
+  after-refusal Short k = after_early Short
+  after-refusal (Over d) k = after_early (Over d)
+  after-refusal (Reset d) k = after_early (Reset d)
+  after-refusal (Again d) k = after_late k.0.fits (Again d)
+  after-refusal (StateAgain d) k = after_late k.0.fits (StateAgain d)
+  after-refusal (Undefined d) k = after_late k.0.fits (Undefined d)
+  after-refusal (Cycle d) k = after_late k.0.fits (Cycle d)
 
   by_conclusion : (x : Out) → Concluded l x → KeepsPast l C (after l x)
   unfolding after
-  by_conclusion (reached w) k = after-success_lem k.0 w k.1
-  by_conclusion (stopped r) k = after-refusal_lem r k
+  by_conclusion (reached w) k = after-success k.0 w k.1
+  by_conclusion (stopped r) k = after-refusal r k
 
   pub keeps_past : KeepsPast l C (outcome l)
   unfolding outcome

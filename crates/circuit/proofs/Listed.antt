@@ -16,8 +16,8 @@ use Rattle.circuit.proofs.Lists.{In-left, In-right, In-cases, In-unmap}
 use Rattle.circuit.proofs.Words.{gates_length}
 
 -- all of two lists together
-pub within-left_lem : (b : ℕ) (xs ys : List ℕ) → AllWithin b (xs ++ ys) → AllWithin b xs
-within-left_lem b xs ys f c h = f c (In-left c xs ys h)
+pub within-left : (b : ℕ) (xs ys : List ℕ) → AllWithin b (xs ++ ys) → AllWithin b xs
+within-left b xs ys f c h = f c (In-left c xs ys h)
 
 pub within_right : (b : ℕ) (xs ys : List ℕ) → AllWithin b (xs ++ ys) → AllWithin b ys
 within_right b xs ys f c h = f c (In-right c xs ys h)
@@ -86,10 +86,10 @@ bounded_of C e e' b =
     let past-inputs : AllWithin top (gate_codes C.gates ++ (all ++ C.roots)) = within_right top C.inputs _ b in
     let past-gates : AllWithin top (all ++ C.roots) = within_right top (gate_codes C.gates) _ past-inputs in
     let latches : LatchesWithin top C.states C.nexts C.resets
-    = latches_of_codes top C.states C.nexts C.resets e e' (within-left_lem top all C.roots past-gates) in
+    = latches_of_codes top C.states C.nexts C.resets e e' (within-left top all C.roots past-gates) in
     record {
-      inputs = within-left_lem top C.inputs _ b;
-      gates = gates_of_codes top C.gates (within-left_lem top (gate_codes C.gates) _ past-inputs);
+      inputs = within-left top C.inputs _ b;
+      gates = gates_of_codes top C.gates (within-left top (gate_codes C.gates) _ past-inputs);
       states = latches.0;
       nexts = latches.1;
       resets = latches.2;

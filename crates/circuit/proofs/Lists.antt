@@ -80,10 +80,10 @@ numbers : ℕ → List ℕ
 numbers zero = []
 numbers (suc n) = n ∷ numbers n
 
-numbers-length_lem : (n : ℕ) → length (numbers n) ≡ n
+numbers-length : (n : ℕ) → length (numbers n) ≡ n
 unfolding numbers
-numbers-length_lem zero = refl
-numbers-length_lem (suc n) = ap suc (numbers-length_lem n)
+numbers-length zero = refl
+numbers-length (suc n) = ap suc (numbers-length n)
 
 numbers_in : (n v : ℕ) → v < n → In v (numbers n)
 unfolding numbers
@@ -95,7 +95,7 @@ numbers_in (suc n) v h = go (last_or n v h) (numbers_in n v)
     go (inr e) rec = inl e
 
 pub below_few : (xs : List ℕ) (n : ℕ) → Distinct xs → ((x : ℕ) → In x xs → x < n) → length xs ≤ n
-below_few xs n d f = omega (arith, pigeons xs (numbers n) d (λ x h. numbers_in n x (f x h)), numbers-length_lem n)
+below_few xs n d f = omega (arith, pigeons xs (numbers n) d (λ x h. numbers_in n x (f x h)), numbers-length n)
 
 -- a list and one more
 pub Distinct-snoc : (xs : List ℕ) (x : ℕ) → Distinct xs → (In x xs → ⊥) → Distinct (xs ++ (x ∷ []))

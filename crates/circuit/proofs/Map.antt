@@ -28,10 +28,10 @@ pub store_length : (m : List ℕ) (d t : ℕ) → length (store m d t) ≡ lengt
 unfolding store
 store_length m d t = length-set m (var d) (flipped t d)
 
-pub entry-replicate_lem : (n v : ℕ) → entry (replicate n no_image) v ≡ no_image
-entry-replicate_lem zero v = refl
-entry-replicate_lem (suc n) zero = refl
-entry-replicate_lem (suc n) (suc v) = entry-replicate_lem n v
+pub entry-replicate : (n v : ℕ) → entry (replicate n no_image) v ≡ no_image
+entry-replicate zero v = refl
+entry-replicate (suc n) zero = refl
+entry-replicate (suc n) (suc v) = entry-replicate n v
 
 -- what holds of every entry holds after a store, if it holds of what is stored
 pub store_all : (P : ℕ → ℕ → Type 0) (m : List ℕ) (d t : ℕ) → var d < length m → P (var d) (flipped t d) → ((v : ℕ) → v ≢ var d → P v (entry m v))

@@ -7,7 +7,7 @@ use mathlib.Core.Bool.{Bool, true, false, not, ◌&&◌}
 use native.Mathlib.Omega.{arith}
 use lib.ListN.{length, get_or}
 use Rattle.lit.specs.Code.{var, is_odd, flipped}
-use Rattle.lit.proofs.Flips.{flipped-var_lem, parity, odd_true, odd_false}
+use Rattle.lit.proofs.Flips.{flipped-var, parity, odd_true, odd_false}
 use Rattle.circuit.specs.Graph.{In, Gate, Graph, out_var, DefinedOnce, negated, Means, constant, source, gate, negation}
 use Rattle.circuit.specs.Ordered.{flip_if}
 use Rattle.circuit.proofs.Lists.{In-getD, Distinct-place}
@@ -47,9 +47,9 @@ odd_flipped t c = go (parity t) (parity c)
     go (inr p) (inl q) = rw (odd_true t p, odd_false c q) (odd_true _ (omega arith))
     go (inr p) (inr q) = rw (odd_true t p, odd_true c q) (odd_false _ (omega arith))
 
-like-like_lem : (d c s : ℕ) (x : Bool) → like d c (like c s x) ≡ like d s x
+like-like : (d c s : ℕ) (x : Bool) → like d c (like c s x) ≡ like d s x
 unfolding like
-like-like_lem d c s x = ap (flip_if (is_odd d)) (flip_if_twice (is_odd c) (flip_if (is_odd s) x))
+like-like d c s x = ap (flip_if (is_odd d)) (flip_if_twice (is_odd c) (flip_if (is_odd s) x))
 
 like_odd : (d c : ℕ) → like d c (is_odd c) ≡ is_odd d
 unfolding like
@@ -59,17 +59,17 @@ like_self : (c : ℕ) (x : Bool) → like c c x ≡ x
 unfolding like
 like_self c x = flip_if_twice (is_odd c) x
 
-like-negated_lem : (c : ℕ) (x : Bool) → like (negated c) c x ≡ not x
+like-negated : (c : ℕ) (x : Bool) → like (negated c) c x ≡ not x
 unfolding like flip_if is_odd
-like-negated_lem c x =
+like-negated c x =
     ap (λ (b : Bool). flip_if b (flip_if (is_odd c) x)) (odd_flipped c 1) ∙ flip_if-flip_if true (is_odd c) (flip_if (is_odd c) x)
     ∙ ap not (flip_if_twice (is_odd c) x)
 
 -- a literal of the same variable
 pub reads_like : {G : Graph} {given : ℕ → Bool} {c : ℕ} {b : Bool} (d : ℕ) → var d ≡ var c → Reads G given c b → Reads G given d (like d c b)
 reads_like {c = c} d e (by_constant h p) = by_constant (e ∙ h) (ap (like d c) p ∙ like_odd d c)
-reads_like {G} {given} {c} d e (by_source k l h p) = by_source k l (e ∙ h) (ap (like d c) p ∙ like-like_lem d c (get_or G.sources k 0) (given k))
-reads_like {c = c} d e (by_gate g x y m h r s p) = by_gate g x y m (e ∙ h) r s (ap (like d c) p ∙ like-like_lem d c g.output (x && y))
+reads_like {G} {given} {c} d e (by_source k l h p) = by_source k l (e ∙ h) (ap (like d c) p ∙ like-like d c (get_or G.sources k 0) (given k))
+reads_like {c = c} d e (by_gate g x y m h r s p) = by_gate g x y m (e ∙ h) r s (ap (like d c) p ∙ like-like d c g.output (x && y))
 
 module _ (G : Graph) (given : ℕ → Bool) where
   pub means_reads : {c : ℕ} {b : Bool} → Means G given c b → Reads G given c b
@@ -77,7 +77,7 @@ module _ (G : Graph) (given : ℕ → Bool) where
   means_reads constant = by_constant refl refl
   means_reads (source k h) = by_source k h refl (sym (like_self (get_or G.sources k 0) (given k)))
   means_reads (gate g {x} {y} h p q) = by_gate g x y h refl (means_reads p) (means_reads q) (sym (like_self g.output (x && y)))
-  means_reads (negation {c} {x} p) = subst (Reads G given (negated c)) (like-negated_lem c x) (reads_like (negated c) (flipped-var_lem c 1) (means_reads p))
+  means_reads (negation {c} {x} p) = subst (Reads G given (negated c)) (like-negated c x) (reads_like (negated c) (flipped-var c 1) (means_reads p))
 
   -- of two literals of one variable, one is the other or its negation
   signed : (c d : ℕ) → var c ≡ var d → (c ≡ d) ⊎ (c ≡ negated d)
@@ -95,7 +95,7 @@ module _ (G : Graph) (given : ℕ → Bool) where
     where
       go : (c ≡ d) ⊎ (c ≡ negated d) → Means G given c (like c d x)
       go (inl h) = subst (λ (z : ℕ). Means G given z (like z d x)) (sym h) (subst (Means G given d) (sym (like_self d x)) m)
-      go (inr h) = subst (λ (z : ℕ). Means G given z (like z d x)) (sym h) (subst (Means G given (negated d)) (sym (like-negated_lem d x)) (negation m))
+      go (inr h) = subst (λ (z : ℕ). Means G given z (like z d x)) (sym h) (subst (Means G given (negated d)) (sym (like-negated d x)) (negation m))
 
   pub reads_means : {c : ℕ} {b : Bool} → Reads G given c b → Means G given c b
   unfolding like flip_if is_odd

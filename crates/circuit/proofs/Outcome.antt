@@ -247,8 +247,8 @@ onto_whole ws lent e = rw (take_all (length lent) ws (omega arith), drop_of_leng
 pub onto_none : (lent : List ℕ) → onto [] lent ≡ lent
 onto_none lent = onto_long [] lent (omega arith)
 
-pub onto-length_lem : (ws lent : List ℕ) → length (onto ws lent) ≡ length lent
-onto-length_lem ws lent =
+pub onto-length : (ws lent : List ℕ) → length (onto ws lent) ≡ length lent
+onto-length ws lent =
     omega (
       arith,
       length-append (take (length lent) ws) (drop (length ws) lent),
@@ -256,8 +256,8 @@ onto-length_lem ws lent =
       length-drop (length ws) lent,
     )
 
-pub onto-take_lem : (ws lent : List ℕ) (n : ℕ) → length ws ≡ n → n ≤ length lent → take n (onto ws lent) ≡ ws
-onto-take_lem ws lent n e h = ap (take n) (onto_long ws lent (omega arith)) ∙ take_at ws (drop (length ws) lent) n e
+pub onto-take : (ws lent : List ℕ) (n : ℕ) → length ws ≡ n → n ≤ length lent → take n (onto ws lent) ≡ ws
+onto-take ws lent n e h = ap (take n) (onto_long ws lent (omega arith)) ∙ take_at ws (drop (length ws) lent) n e
 
 pub onto_at : (ws lent : List ℕ) (i d : ℕ) → i < length ws → length ws ≤ length lent → get_or (onto ws lent) i d ≡ get_or ws i d
 onto_at ws lent i d h k = ap (λ (x : List ℕ). get_or x i d) (onto_long ws lent k) ∙ get_or-append ws (drop (length ws) lent) d i h

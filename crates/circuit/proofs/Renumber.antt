@@ -174,9 +174,9 @@ module _ (C : Circuit) (limits : Limits C) where
   by_cause b o (Undefined l) k n = (b, o, (k.0, k.1, k.2.0), k.2.1)
   by_cause b o (Cycle l) k n = (b, o, (k.0, k.1, k.2.0), k.2.1)
 
-  walk-part_lem : Clean C → DefinedOnce (graph C) → (out : Out) → AllPost (net C) C.top (walked C) (start C.top (graph C).sources) out → InRoom out
+  walk-part : Clean C → DefinedOnce (graph C) → (out : Out) → AllPost (net C) C.top (walked C) (start C.top (graph C).sources) out → InRoom out
       → Answered C out
-  walk-part_lem b o (reached w) p q =
+  walk-part b o (reached w) p q =
       record {
         bounds = b.0;
         resets = b.1;
@@ -186,7 +186,7 @@ module _ (C : Circuit) (limits : Limits C) where
         images = p.2;
         named = named b.0 o w p;
       }
-  walk-part_lem b o (stopped r) p q = by_cause b o r p q
+  walk-part b o (stopped r) p q = by_cause b o r p q
 
   check_6 : Clean C → Distinct (map var (definitions C)) → Apart (map var (definitions C)) (0 ∷ [])
       → (a : Option ℕ) → Again (0 ∷ map var (definitions C)) C.states a → (out : Out) → (DefinedOnce (graph C) → Answered C out)
@@ -221,7 +221,7 @@ module _ (C : Circuit) (limits : Limits C) where
       (λ d z.
       check_6 b d z (first_again (0 ∷ map var (definitions C)) C.states) (again_test (0 ∷ map var (definitions C)) C.states) _
       (λ o.
-      walk-part_lem b o (walk_with (stack_room (net C)) C)
+      walk-part b o (walk_with (stack_room (net C)) C)
       (walk_all_ok (net C) C.top o (sized C limits b.0) (stack_room (net C)) (walked C) (start C.top (graph C).sources)
       (start_inv (net C) C.top o (sized C limits b.0)))
       (all_in_room (net C) C.top o (sized C limits b.0) (walked C) (start C.top (graph C).sources)

@@ -79,9 +79,9 @@ as_before C e =
     ap₂ (λ (x y : Option ℕ). or_refuse x R.Over (or_refuse y R.Reset (numbered C))) four none_stray_lem
 
 -- and the reset images are 0 too
-pub zeros-carried_lem : (t n : ℕ) → carried_from t (zeros n) ≡ zeros n
-zeros-carried_lem t zero = refl
-zeros-carried_lem t (suc n) = ap {B = List ℕ} (λ l. 0 ∷ l) (zeros-carried_lem (t + 2) n)
+pub zeros-carried : (t n : ℕ) → carried_from t (zeros n) ≡ zeros n
+zeros-carried t zero = refl
+zeros-carried t (suc n) = ap {B = List ℕ} (λ l. 0 ∷ l) (zeros-carried (t + 2) n)
 
 -- resets that pass change nothing but the reset images
 module _ (l : Lent) (resets : List ℕ) (p : Passes l) (q : Passes (with_resets l resets)) where

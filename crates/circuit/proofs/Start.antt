@@ -13,10 +13,10 @@ use Rattle.circuit.specs.Map.{no_image, store}
 use Rattle.circuit.specs.Walk.{Net, source_count, Work, first_code, next_code}
 use Rattle.circuit.specs.Circuit.{store_from, start}
 use Rattle.circuit.specs.Ordered.{flip_if}
-use Rattle.circuit.proofs.Map.{entry_same, entry_other, entry-replicate_lem, store_all, store_length}
+use Rattle.circuit.proofs.Map.{entry_same, entry_other, entry-replicate, store_all, store_length}
 use Rattle.circuit.proofs.Lists.{In-getD, In-map, In-unmap}
 use Rattle.circuit.proofs.Graph.{source_defined, source_no_gate, zero_no_gate, zero_no_source, sources_distinct, Grounded-leaf}
-use Rattle.circuit.proofs.Values.{val-zero, val_source, val-flipped_lem}
+use Rattle.circuit.proofs.Values.{val-zero, val_source, val-flipped}
 use Rattle.circuit.proofs.Invariant.{half_double}
 use Rattle.circuit.specs.Invariant.{like, Reads, by_constant, by_source, val, Sized, Inv, entry, code_in}
 
@@ -80,11 +80,11 @@ module _ (N : Net) (top : ℕ) (once : DefinedOnce N.graph) (sized : Sized N top
         subst (λ (t : ℕ). P (var (get_or sources j 0)) (flipped t (get_or sources j 0))) (omega arith) (r j h),
       ))
       (store_all P (replicate (top + 1) no_image) 0 0 (omega (arith, length-replicate (top + 1) no_image)) q
-      (λ v n. subst⁻¹ (λ (z : ℕ). P v z) (entry-replicate_lem (top + 1) v) (p v)))
+      (λ v n. subst⁻¹ (λ (z : ℕ). P v z) (entry-replicate (top + 1) v) (p v)))
 
-  start-length_lem : length begin.images ≡ top + 1
+  start-length : length begin.images ≡ top + 1
   unfolding start
-  start-length_lem = store_from-length constant_only 2 sources ∙ constant_only_length
+  start-length = store_from-length constant_only 2 sources ∙ constant_only_length
 
   start_zero : entry begin.images 0 ≡ 0
   unfolding start flipped
@@ -97,18 +97,18 @@ module _ (N : Net) (top : ℕ) (once : DefinedOnce N.graph) (sized : Sized N top
   start_at_lem k h =
       store_from_at_lem sources constant_only 2 (sources_distinct N.graph once) within k h ∙ ap (λ (t : ℕ). flipped t (get_or sources k 0)) (omega arith)
 
-  start-codes_lem : (k : ℕ) → k < length sources → code_in begin.images (get_or sources k 0) ≡ 2 * (k + 1)
-  start-codes_lem k h = ap (λ (e : ℕ). flipped e (get_or sources k 0)) (start_at_lem k h) ∙ flipped_twice (2 * (k + 1)) (get_or sources k 0)
+  start-codes : (k : ℕ) → k < length sources → code_in begin.images (get_or sources k 0) ≡ 2 * (k + 1)
+  start-codes k h = ap (λ (e : ℕ). flipped e (get_or sources k 0)) (start_at_lem k h) ∙ flipped_twice (2 * (k + 1)) (get_or sources k 0)
 
   place_of : (v : ℕ) (ds : List ℕ) → In v (map var ds) → (k : ℕ) × (k < length ds) × (var (get_or ds k 0) ≡ v)
   place_of v [] h = absurd h
   place_of v (d ∷ ds) (inl e) = (0, omega arith, sym e)
   place_of v (d ∷ ds) (inr h) = let r = place_of v ds h in (suc r.0, omega (arith, r.1), r.2)
 
-  start-leaves_lem : (v : ℕ) → In v (0 ∷ map var sources) → entry begin.images v ≢ no_image
+  start-leaves : (v : ℕ) → In v (0 ∷ map var sources) → entry begin.images v ≢ no_image
   unfolding flipped
-  start-leaves_lem v (inl e) = λ k. omega (arith, start_zero, subst (λ (u : ℕ). entry begin.images u ≡ no_image) e k)
-  start-leaves_lem v (inr h) =
+  start-leaves v (inl e) = λ k. omega (arith, start_zero, subst (λ (u : ℕ). entry begin.images u ≡ no_image) e k)
+  start-leaves v (inr h) =
       let r = place_of v sources h in
       λ k. omega (arith, start_at_lem r.0 r.1, subst⁻¹ (λ (u : ℕ). entry begin.images u ≡ no_image) r.2 k, r.1, sized.few)
 
@@ -118,7 +118,7 @@ module _ (N : Net) (top : ℕ) (once : DefinedOnce N.graph) (sized : Sized N top
   source_reads given k h =
       let e : val (source_count N) given [] (flipped (2 * (k + 1)) (get_or sources k 0)) ≡ like (2 * var (get_or sources k 0)) (get_or sources k 0) (given k)
       = (rw (odd_false (2 * var (get_or sources k 0)) (omega arith))
-      (val-flipped_lem (source_count N) given [] (2 * (k + 1)) (get_or sources k 0)
+      (val-flipped (source_count N) given [] (2 * (k + 1)) (get_or sources k 0)
       ∙ ap (flip_if (is_odd (get_or sources k 0))) (val_source (source_count N) given [] k h))) in
       by_source k h (half_double (var (get_or sources k 0))) e
 
@@ -138,7 +138,7 @@ module _ (N : Net) (top : ℕ) (once : DefinedOnce N.graph) (sized : Sized N top
   unfolding next_code first_code flipped start is_odd
   start_inv =
       record {
-        size = start-length_lem;
+        size = start-length;
         low =
             start_all (λ v e. e ≢ no_image → e < next_code (source_count N) []) (λ v n. absurd (n refl)) (λ n. omega arith)
             (λ k h n. omega (arith, h));
@@ -155,9 +155,9 @@ module _ (N : Net) (top : ℕ) (once : DefinedOnce N.graph) (sized : Sized N top
             (λ n. by_constant refl (val-zero (source_count N) given [])) (λ k h n. source_reads given k h);
         order = λ j h. absurd (omega arith);
         fresh = λ j h. absurd (omega arith);
-        leaves = start-leaves_lem;
+        leaves = start-leaves;
         zero_code = start_zero;
-        source_codes = start-codes_lem;
+        source_codes = start-codes;
         few = omega arith;
         closed = λ g h n. absurd (start_no_gate (out_var g) n g h refl);
         ruled = λ g h n. absurd (start_no_gate (out_var g) n g h refl);

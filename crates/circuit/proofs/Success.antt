@@ -33,8 +33,8 @@ use Rattle.circuit.proofs.Invariant.{lit_reads, flipped_below, codes_fit}
 use Rattle.circuit.proofs.Ordered.{ordered_once, ordered_means}
 use Rattle.circuit.proofs.Renumber.{Done, sized, counting, reach_mapped}
 use Rattle.circuit.proofs.Words.{pairs_length, pairs_back}
-use Rattle.circuit.proofs.Carried.{carried-length_lem, carried_at, carried_first, all_carried}
-use Rattle.circuit.proofs.Outcome.{agrees, limits, tested_of, concluded, Concluded, roomy, success_from, success_of, onto_long, onto-take_lem, onto_at, get_d_map_in}
+use Rattle.circuit.proofs.Carried.{carried-length, carried_at, carried_first, all_carried}
+use Rattle.circuit.proofs.Outcome.{agrees, limits, tested_of, concluded, Concluded, roomy, success_from, success_of, onto_long, onto-take, onto_at, get_d_map_in}
 use Rattle.circuit.specs.Invariant.{val, Inv, entry, code_in}
 
 module _ (l : Lent) (w : Work) (e : conclusion l ≡ reached w) where
@@ -108,13 +108,13 @@ module _ (l : Lent) (w : Work) (e : conclusion l ≡ reached w) where
   held_is =
       let nexts : take (length l.states) (outcome l).next_images ≡ images_in w.images C.nexts
       = ap (λ (o : Outcome). take (length l.states) o.next_images) (success_of l w e)
-      ∙ onto-take_lem (images_in w.images C.nexts) l.next_images (length l.states) (images_length C.nexts ∙ sym latches) room.nexts in
+      ∙ onto-take (images_in w.images C.nexts) l.next_images (length l.states) (images_length C.nexts ∙ sym latches) room.nexts in
       let carry : take (length l.states) (outcome l).reset_images ≡ resets_now
       = ap (λ (o : Outcome). take (length l.states) o.reset_images) (success_of l w e)
-      ∙ onto-take_lem resets_now l.reset_images (length l.states) (carried-length_lem (first_latch (length C.inputs)) C.resets ∙ resets) room.resets in
+      ∙ onto-take resets_now l.reset_images (length l.states) (carried-length (first_latch (length C.inputs)) C.resets ∙ resets) room.resets in
       let roots : take (length l.roots) (outcome l).root_images ≡ images_in w.images C.roots
       = ap (λ (o : Outcome). take (length l.roots) o.root_images) (success_of l w e)
-      ∙ onto-take_lem (images_in w.images C.roots) l.root_images (length l.roots) (images_length C.roots) room.roots in
+      ∙ onto-take (images_in w.images C.roots) l.root_images (length l.roots) (images_length C.roots) room.roots in
       let rest : List ℕ = zeros (2 * (length C.gates - length w.made)) in
       let words : List ℕ = pair_words w.made ++ rest in
       let fit : length words ≤ length l.gates_out
@@ -293,9 +293,9 @@ module _ (l : Lent) (s : Summary) (e : (outcome l).answer ≡ Renumbered s) wher
         omega (arith, top, top_within l from.work from.ends),
       )
 
-  pub codes-within_lem : (c : ℕ) (t : Lit) → HasImage l (outcome l) c t → (t.0 ≤ 2 * s.top.0 + 1) × (t.0 < no_image)
+  pub codes-within : (c : ℕ) (t : Lit) → HasImage l (outcome l) c t → (t.0 ≤ 2 * s.top.0 + 1) × (t.0 < no_image)
   unfolding ordered_of
-  codes-within_lem c t h =
+  codes-within c t h =
       let top : s.top.0 ≡ sources_of (ordered_of (circuit_of l) from.work) + length from.work.made = ap (λ (x : Summary). x.top.0) from.sums in
       (omega (arith, top, code_within l from.work from.ends c t h), code_word l from.work from.ends c t h)
 

@@ -54,14 +54,14 @@ module _ (l : Lent) (o o' : Outcome) (d : Demands l (circuit_of l) o) (d' : Dema
   C = circuit_of l
 
   -- a refusal: every list kept, or cleared as far as it is named
-  after-refusal_lem : (r : Refusal) → o.answer ≡ Refused r → Early r ⊎ Late r → o ≡ o'
-  after-refusal_lem r e (inl h) =
+  after-refusal : (r : Refusal) → o.answer ≡ Refused r → Early r ⊎ Late r → o ≡ o'
+  after-refusal r e (inl h) =
       let p = d.early_refusals_keep r e h in
       let q = d'.early_refusals_keep r (sym one ∙ e) h in
       same_outcome o o' one (same_whole l.map _ _ p.map q.map) (same_whole l.next_images _ _ p.nexts q.nexts)
       (same_whole l.reset_images _ _ p.resets q.resets) (same_whole l.root_images _ _ p.roots q.roots) (same_whole l.gates_out _ _ p.gates q.gates)
       (same_whole l.scratch _ _ p.scratch q.scratch)
-  after-refusal_lem r e (inr h) =
+  after-refusal r e (inr h) =
       let p = d.late_refusals_clear r e h in
       let q = d'.late_refusals_clear r (sym one ∙ e) h in
       same_outcome o o' one (same_filled _ _ l.map _ _ p.map q.map) (same_filled _ _ l.next_images _ _ p.nexts q.nexts)
@@ -149,8 +149,8 @@ module _ (l : Lent) (o o' : Outcome) (d : Demands l (circuit_of l) o) (d' : Dema
         let z : 2 * (i / 2) + 1 ≡ i = omega arith in
         subst (λ (x : ℕ). get_or o.gates_out x 0 ≡ get_or o'.gates_out x 0) z (smaller_word f.0 (i / 2) f.1 f.2)
 
-    after-success_lem : o ≡ o'
-    after-success_lem =
+    after-success : o ≡ o'
+    after-success =
         let p = d.past_kept in
         let q = d'.past_kept in
         same_outcome o o' one (same_kept _ l.map _ _ p.map q.map (λ v h. same v (omega arith)))
@@ -166,5 +166,5 @@ pub told : (l : Lent) (o o' : Outcome) → Demands l (circuit_of l) o → Demand
 told l o o' d d' one same = go o.answer refl
   where
     go : (a : Answer) → o.answer ≡ a → o ≡ o'
-    go (Renumbered s) e = after-success_lem l o o' d d' one s e (same s e)
-    go (Refused r) e = after-refusal_lem l o o' d d' one r e (d.early_or_late r)
+    go (Renumbered s) e = after-success l o o' d d' one s e (same s e)
+    go (Refused r) e = after-refusal l o o' d d' one r e (d.early_or_late r)

@@ -8,7 +8,7 @@ use native.Mathlib.Omega.{arith}
 use lib.ListN.{length, get_or, length-append, get_or-append}
 use lib.Seq.{get_or_at, get_or-append_seam}
 use Rattle.lit.specs.Code.{var, is_odd, flipped}
-use Rattle.lit.proofs.Flips.{flipped-var_lem, odd_false}
+use Rattle.lit.proofs.Flips.{flipped-var, odd_false}
 use Rattle.circuit.specs.Walk.{Pair, first_code, next_code}
 use Rattle.circuit.specs.Ordered.{no_pair, InOrder, flip_if, bit_of, run_gates, values_of, given_from}
 use Rattle.circuit.proofs.Meaning.{flip_if-flip_if, odd_flipped}
@@ -70,10 +70,10 @@ module _ (n : ℕ) (given : ℕ → Bool) where
       (run_keeps (false ∷ given_from given 0 n) made (suc k) (omega (arith, length-given_from given 0 n))
       ∙ get_d_given_from given 0 n k h ∙ ap given (omega arith))
 
-  pub val-flipped_lem : (made : List Pair) (t d : ℕ) → val n given made (flipped t d) ≡ flip_if (is_odd d) (val n given made t)
+  pub val-flipped : (made : List Pair) (t d : ℕ) → val n given made (flipped t d) ≡ flip_if (is_odd d) (val n given made t)
   unfolding val bit_of
-  val-flipped_lem made t d =
-      rw (odd_flipped t d, flipped-var_lem t d) (flip_if-flip_if (is_odd d) (is_odd t) (get_or (bits made) (t / 2) false))
+  val-flipped made t d =
+      rw (odd_flipped t d, flipped-var t d) (flip_if-flip_if (is_odd d) (is_odd t) (get_or (bits made) (t / 2) false))
 
   -- a code's bit, by the bit of its variable
   pub val_even : (made : List Pair) (t : ℕ) → val n given made t ≡ flip_if (is_odd t) (val n given made (2 * var t))

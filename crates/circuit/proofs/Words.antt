@@ -85,8 +85,8 @@ gates_in (o ∷ a ∷ b ∷ ws) (suc k) h =
     let e₂ : 3 * suc k + 2 ≡ suc (suc (suc (3 * k + 2))) = omega arith in
     let at : ℕ → ℕ = λ n. get_or (o ∷ a ∷ b ∷ ws) n 0 in
     let e : gate_at (o ∷ a ∷ b ∷ ws) (suc k) ≡ gate_at ws k =
-        ap₂ (λ (x : ℕ) (y : ℕ × ℕ). record { output = x; first = y.0; second = y.1 }) (ap at e₀)
-        (ap₂ (λ (x y : ℕ). (x, y)) (ap at e₁) (ap at e₂)) in
+    ap₂ (λ (x : ℕ) (y : ℕ × ℕ). record { output = x; first = y.0; second = y.1 }) (ap at e₀)
+    (ap₂ (λ (x y : ℕ). (x, y)) (ap at e₁) (ap at e₂)) in
     inr (subst⁻¹ (λ (g : Gate). In g (gates_of ws)) e (gates_in ws k (omega arith)))
 
 -- the pairs made, as words

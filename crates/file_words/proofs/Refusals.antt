@@ -41,7 +41,7 @@ pub record Has (P : Fault → Type 0) : Type 0 where
   pub no_digit : P (Number NoDigit)
   pub leading_zero : P (Number LeadingZero)
   pub over_width : P (Number OverWidth)
-  pub over-limit_lem : P (Number OverLimit)
+  pub over-limit : P (Number OverLimit)
   pub missing : P Missing
   pub too_many : P TooMany
   pub short : P Short
@@ -103,7 +103,7 @@ module _ (s : List ℕ) (P : Fault → Type 0) where
       where
         go : (b : Bool) → OnlyToken P (cond b (Value v n) (Refused OverLimit at))
         go true = tt
-        go false = has.over-limit_lem
+        go false = has.over-limit
     held most at (Refused why place) h = h
 
     -- numbers, bytes and lines

@@ -23,14 +23,14 @@ pub fn read(
 ) -> u32
     ensures { file_seen (record {
       number = result;
-      nexts = nexts.exit.now;
+      nexts = nexts.new;
       resets = resets.new;
       gates = gates.new;
       sizes = sizes.new;
       roots = roots.new;
       words = answer.new;
     }) ≡ read_seen bytes.now (record {
-      nexts = nexts.entry.now;
+      nexts = nexts.old;
       resets = resets.old;
       gates = gates.old;
       sizes = sizes.old;
@@ -60,7 +60,7 @@ pub fn read_text(
 ) -> u32
     ensures { text_seen (record {
       number = result;
-      inputs = inputs.exit.now;
+      inputs = inputs.new;
       states = states.new;
       nexts = nexts.new;
       resets = resets.new;
@@ -69,7 +69,7 @@ pub fn read_text(
       roots = roots.new;
       words = answer.new;
     }) ≡ read_text_seen bytes.now (record {
-      inputs = inputs.entry.now;
+      inputs = inputs.old;
       states = states.old;
       nexts = nexts.old;
       resets = resets.old;

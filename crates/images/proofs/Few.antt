@@ -7,7 +7,7 @@ use lib.ListN.{length, get_or, set, take, drop}
 use borrow.Author.Tests.{lt-ltb, le-ltb}
 use Rattle.circuit.specs.Ordered.{carried, carried_from, first_latch}
 use Rattle.circuit.specs.Outcome.{limit, onto}
-use Rattle.circuit.proofs.Carried.{carried-length_lem, carried_at}
+use Rattle.circuit.proofs.Carried.{carried-length, carried_at}
 use Rattle.lent.proofs.Rows.{onto_more}
 use Rattle.images.specs.Begin.{beginning, begun, carried_onto}
 
@@ -29,7 +29,7 @@ pub carried_more : (first : ℕ) (rs o o' : List ℕ) (i own x : ℕ) → i < le
     → set o' i x ≡ take (i + 1) (carried_from first rs) ++ drop (i + 1) o
 carried_more first rs o o' i own x h k e d f =
     let b : x ≡ get_or (carried_from first rs) i 0 = f ∙ ap (λ (t : ℕ). carried t (get_or rs i 0)) e ∙ sym (carried_at first rs i h) in
-    rw d (onto_more (carried_from first rs) o i x (omega (arith, carried-length_lem first rs)) k b)
+    rw d (onto_more (carried_from first rs) o i x (omega (arith, carried-length first rs)) k b)
 
 module _ (inputs : ℕ) (rs o : List ℕ) where
   pub carry_many_inputs : limit < inputs → o ≡ carried_onto inputs rs o

@@ -12,7 +12,7 @@ use Rattle.token.specs.Format.{Bytes}
 use Rattle.circuit.specs.Walk.{Pair}
 use Rattle.circuit.specs.Ordered.{no_pair, sources_of, InOrder}
 use Rattle.circuit.specs.Outcome.{onto}
-use Rattle.circuit.proofs.Outcome.{onto-take_lem, onto-length_lem, onto_past}
+use Rattle.circuit.proofs.Outcome.{onto-take, onto-length, onto_past}
 use Rattle.lines.specs.declared.Fault.{Fault}
 use Rattle.lines.specs.declared.Fault.TheVariants as L
 use Rattle.lines.specs.Reading.{Read, got, no}
@@ -154,10 +154,10 @@ module _ (bytes : List ℕ) (flags : ℕ) (l : Lists) (are : Bytes bytes) where
     written_is : take written out ≡ file_of carried.to
     written_is =
         ap (take written) carried.fills
-        ∙ onto-take_lem (file_of carried.to) l.bytes written (sym carried.whole) carried.fits
+        ∙ onto-take (file_of carried.to) l.bytes written (sym carried.whole) carried.fits
 
     long : length out ≡ length l.bytes
-    long = ap length carried.fills ∙ onto-length_lem (file_of carried.to) l.bytes
+    long = ap length carried.fills ∙ onto-length (file_of carried.to) l.bytes
 
     spelled : Spells limits carried.to (file_of carried.to)
     spelled = binary.file_spelled limits carried.to carried.sound (limits_hold carried.to carried.sound)

@@ -20,7 +20,7 @@ use Rattle.circuit.specs.Outcome as C
 use Rattle.circuit.specs.Outcome.{Lent, lent_of, circuit_of, total}
 use Rattle.circuit.specs.Demands.{Demands}
 use Rattle.circuit.proofs.Demands.{demands}
-use Rattle.circuit.proofs.Outcome.{onto-length_lem}
+use Rattle.circuit.proofs.Outcome.{onto-length}
 use Rattle.lines.specs.declared.Fault.{Fault}
 use Rattle.lines.specs.Reading.{Read, got, no}
 use Rattle.ordered.specs.declared.given.Fault as G
@@ -97,9 +97,9 @@ module _ (r : FileRead) (flags : ℕ) (gates : List ℕ) (c : Taken) (codes : E.
       lengths =
           let h : x.lists ≡ E.filled r.inputs r.latches (take (2 * r.gates) gates) codes
           = (success r.inputs r.latches (take (2 * r.gates) gates) codes x its e).holds in (
-            ap (λ (y : E.Lists). length y.inputs) h ∙ onto-length_lem _ codes.inputs,
-            ap (λ (y : E.Lists). length y.states) h ∙ onto-length_lem _ codes.states,
-            ap (λ (y : E.Lists). length y.triples) h ∙ onto-length_lem _ codes.triples,
+            ap (λ (y : E.Lists). length y.inputs) h ∙ onto-length _ codes.inputs,
+            ap (λ (y : E.Lists). length y.states) h ∙ onto-length _ codes.states,
+            ap (λ (y : E.Lists). length y.triples) h ∙ onto-length _ codes.triples,
           )
 
   -- what expanding answered, and what renumbering left where it was asked
@@ -199,11 +199,11 @@ module _ (bytes : List ℕ) (flags : ℕ) (l : Lists) (o : B.Outcome) (left : o 
           absurd (let z : F.Refused why place ≡ F.Taken used = ap (λ (y : B.Outcome). y.read.answer) (sym h) ∙ e in let z' : ◌≡◌ {A = ℕ} 0 1 = cc in omega arith)
       go (got f n) k h =
           let known = read_known bytes (room_of l.file) f n k in
-          let nexts = ap (λ (y : B.Outcome). length y.lists.nexts) h ∙ onto-length_lem f.ordered.nexts l.file.nexts in
-          let resets = ap (λ (y : B.Outcome). length y.lists.resets) h ∙ onto-length_lem f.ordered.resets l.file.resets in
-          let gates = ap (λ (y : B.Outcome). length y.lists.gates) h ∙ onto-length_lem _ l.file.gates in
-          let sizes = ap (λ (y : B.Outcome). length y.lists.sizes) h ∙ onto-length_lem f.sizes l.file.sizes in
-          let roots = ap (λ (y : B.Outcome). length y.lists.roots) h ∙ onto-length_lem f.ordered.roots l.file.roots in
+          let nexts = ap (λ (y : B.Outcome). length y.lists.nexts) h ∙ onto-length f.ordered.nexts l.file.nexts in
+          let resets = ap (λ (y : B.Outcome). length y.lists.resets) h ∙ onto-length f.ordered.resets l.file.resets in
+          let gates = ap (λ (y : B.Outcome). length y.lists.gates) h ∙ onto-length _ l.file.gates in
+          let sizes = ap (λ (y : B.Outcome). length y.lists.sizes) h ∙ onto-length f.sizes l.file.sizes in
+          let roots = ap (λ (y : B.Outcome). length y.lists.roots) h ∙ onto-length f.ordered.roots l.file.roots in
           let latches : o.read.latches ≡ length f.ordered.nexts = ap (λ (y : B.Outcome). y.read.latches) h in
           let gate_count : o.read.gates ≡ length f.ordered.gates = ap (λ (y : B.Outcome). y.read.gates) h in
           let sets : o.read.sets ≡ length f.sizes = ap (λ (y : B.Outcome). y.read.sets) h in

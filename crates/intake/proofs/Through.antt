@@ -24,7 +24,7 @@ use Rattle.circuit.specs.Outcome as C
 use Rattle.circuit.specs.Outcome.{Lent, circuit_of, limit, total, pair_words, pairs_of, held, or_stop, conclusion, too_big, misshapen}
 use Rattle.circuit.specs.Claims.{Within, Roomy, IsTrue}
 use Rattle.circuit.proofs.Demands.{demands}
-use Rattle.circuit.proofs.Outcome.{onto-take_lem}
+use Rattle.circuit.proofs.Outcome.{onto-take}
 use Rattle.circuit.proofs.Ordered.{count_from-length, gates_from-length}
 use Rattle.circuit.proofs.Success as S
 use Rattle.lines.specs.Reading.{Read, got}
@@ -107,7 +107,7 @@ module _ (bytes : List ℕ) (flags : ℕ) (l : Lists) (f : File) (n : ℕ) (read
   expands : x ≡ expansion f.ordered.inputs (length f.ordered.nexts) (pair_words f.ordered.gates) l.codes
   expands =
       ap (λ (ws : List ℕ). expansion f.ordered.inputs (length f.ordered.nexts) ws l.codes)
-      (onto-take_lem (pair_words f.ordered.gates) l.file.gates (2 * length f.ordered.gates) (words_length f.ordered.gates) known.gates_fit)
+      (onto-take (pair_words f.ordered.gates) l.file.gates (2 * length f.ordered.gates) (words_length f.ordered.gates) known.gates_fit)
 
   -- what is handed over is the circuit of the file
   lends : E.Lends f.ordered (is_odd flags) (is_odd (flags / 2)) (is_odd (flags / 4)) x.lists lent
@@ -116,12 +116,12 @@ module _ (bytes : List ℕ) (flags : ℕ) (l : Lists) (f : File) (n : ℕ) (read
         circuit = refl;
         inputs = refl;
         states = refl;
-        nexts = onto-take_lem f.ordered.nexts l.file.nexts (length f.ordered.nexts) refl known.nexts_fit;
+        nexts = onto-take f.ordered.nexts l.file.nexts (length f.ordered.nexts) refl known.nexts_fit;
         resets =
-            onto-take_lem f.ordered.resets l.file.resets (length f.ordered.nexts) (sym well.reset_count)
+            onto-take f.ordered.resets l.file.resets (length f.ordered.nexts) (sym well.reset_count)
             (omega (arith, well.reset_count, known.resets_fit));
         gates = refl;
-        roots = onto-take_lem f.ordered.roots l.file.roots (total f.ordered.counts) (sym counts) (omega (arith, counts, known.roots_fit));
+        roots = onto-take f.ordered.roots l.file.roots (total f.ordered.counts) (sym counts) (omega (arith, counts, known.roots_fit));
       }
 
   -- a circuit within the limits is expanded, or a list for its codes is too short
@@ -185,7 +185,7 @@ module _ (bytes : List ℕ) (flags : ℕ) (l : Lists) (f : File) (n : ℕ) (read
 
       -- the circuit lent is the file's, with the flags
       circuit_is : circuit_of lent ≡ circuit_for flags f
-      circuit_is = ordered.expanded-given_lem f.ordered l.codes x expands done (is_odd flags) (is_odd (flags / 2)) (is_odd (flags / 4)) lent lends
+      circuit_is = ordered.expanded-given f.ordered l.codes x expands done (is_odd flags) (is_odd (flags / 2)) (is_odd (flags / 4)) lent lends
 
       -- the lists that renumbering writes are long enough for the circuit lent exactly when they are for the file
       long_roomy : LongBehind f l → Roomy lent (circuit_of lent)
@@ -291,7 +291,7 @@ module _ (bytes : List ℕ) (flags : ℕ) (l : Lists) (f : File) (n : ℕ) (read
             = length-take-le (2 * s.made) o.gates_out (omega (arith, d.made_few, room.gates, kept.gates.0)) in
             let gates : take (2 * s.made) o.gates_out ≡ pair_words (pairs_of (take (2 * s.made) o.gates_out))
             = sym (words_back (take (2 * s.made) o.gates_out) (omega (arith, long))) in
-            let sizes : take (length f.sizes) file.sizes ≡ f.sizes = onto-take_lem f.sizes l.file.sizes (length f.sizes) refl known.sizes_fit in
+            let sizes : take (length f.sizes) file.sizes ≡ f.sizes = onto-take f.sizes l.file.sizes (length f.sizes) refl known.sizes_fit in
             λ i. record {
               inputs = inputs i;
               counts = f.ordered.counts;

@@ -79,14 +79,14 @@ fn numbered(
         × (Coded read (record { inputs = input_codes.now; states = state_codes.now; triples = triples.now })) }
     ensures { left (record {
       answer = result;
-      map = map.exit.now;
+      map = map.new;
       next_images = next_images.new;
       reset_images = reset_images.new;
       root_images = root_images.new;
       gates_out = gates_out.new;
       scratch = scratch.new;
     }) ≡ outcome (handed read flags (record {
-      nexts = nexts.entry.now;
+      nexts = nexts.old;
       resets = resets.now;
       roots = roots.now;
     }) (record {
@@ -94,7 +94,7 @@ fn numbered(
       states = state_codes.now;
       triples = triples.now;
     }) (record {
-      map = map.entry.now;
+      map = map.old;
       next_images = next_images.old;
       reset_images = reset_images.old;
       root_images = root_images.old;
@@ -149,14 +149,14 @@ fn renumbered(
       triples = triples.new;
     }) (record {
       answer = result;
-      map = map.exit.now;
+      map = map.new;
       next_images = next_images.new;
       reset_images = reset_images.new;
       root_images = root_images.new;
       gates_out = gates_out.new;
       scratch = scratch.new;
     }) ≡ renumbering read flags gates.now (record {
-      nexts = nexts.entry.now;
+      nexts = nexts.old;
       resets = resets.now;
       roots = roots.now;
     }) (record {
@@ -164,7 +164,7 @@ fn renumbered(
       states = state_codes.old;
       triples = triples.old;
     }) (record {
-      map = map.entry.now;
+      map = map.old;
       next_images = next_images.old;
       reset_images = reset_images.old;
       root_images = root_images.old;
@@ -268,7 +268,7 @@ fn onward(
         × (read.sets ≤ length sizes.now) }
     ensures { seen result (record {
       file = record {
-        nexts = nexts.entry.now;
+        nexts = nexts.old;
         resets = resets.now;
         gates = gates.now;
         sizes = sizes.now;
@@ -280,7 +280,7 @@ fn onward(
         triples = triples.new;
       };
       images = record {
-        map = map.exit.now;
+        map = map.new;
         next_images = next_images.new;
         reset_images = reset_images.new;
         root_images = root_images.new;
@@ -290,7 +290,7 @@ fn onward(
       bytes = out.new;
     }) ≡ onwards used read flags (record {
       file = record {
-        nexts = nexts.entry.now;
+        nexts = nexts.old;
         resets = resets.now;
         gates = gates.now;
         sizes = sizes.now;
@@ -302,7 +302,7 @@ fn onward(
         triples = triples.old;
       };
       images = record {
-        map = map.entry.now;
+        map = map.old;
         next_images = next_images.old;
         reset_images = reset_images.old;
         root_images = root_images.old;
@@ -394,7 +394,7 @@ pub fn order(
 ) -> Ordering
     ensures { seen result (record {
       file = record {
-        nexts = nexts.exit.now;
+        nexts = nexts.new;
         resets = resets.new;
         gates = gates.new;
         sizes = sizes.new;
@@ -406,7 +406,7 @@ pub fn order(
         triples = triples.new;
       };
       images = record {
-        map = map.exit.now;
+        map = map.new;
         next_images = next_images.new;
         reset_images = reset_images.new;
         root_images = root_images.new;
@@ -416,7 +416,7 @@ pub fn order(
       bytes = out.new;
     }) ≡ ordering bytes.now flags (record {
       file = record {
-        nexts = nexts.entry.now;
+        nexts = nexts.old;
         resets = resets.old;
         gates = gates.old;
         sizes = sizes.old;
@@ -428,7 +428,7 @@ pub fn order(
         triples = triples.old;
       };
       images = record {
-        map = map.entry.now;
+        map = map.old;
         next_images = next_images.old;
         reset_images = reset_images.old;
         root_images = root_images.old;

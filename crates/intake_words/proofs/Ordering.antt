@@ -9,7 +9,7 @@ use lib.Dec.{ltb}
 use lib.ListN.{length, drop, length-append}
 use lib.Seq.{sets, sets-eq, drop-append-add, drop-drop}
 use Rattle.circuit.specs.Outcome.{onto}
-use Rattle.circuit.proofs.Outcome.{onto_long, onto-length_lem, onto-take_lem}
+use Rattle.circuit.proofs.Outcome.{onto_long, onto-length, onto-take}
 use Rattle.binary.specs.declared.FileRead.{FileRead}
 use Rattle.file_words.specs.Read.{top_of, answer_words}
 use Rattle.intake.specs.declared.Ordering.{Ordering}
@@ -23,8 +23,8 @@ file_words_lem m r h = omega (arith, h, length-append r.counts (r.sets ∷ []))
 -- words stored past those that were put onto the front of a list are as if all had been put there
 pub put_after : (ws vs words : List ℕ) (n : ℕ) → length ws ≡ n → n + length vs ≤ length words → sets (onto ws words) n vs ≡ onto (ws ++ vs) words
 put_after ws vs words n e h =
-    let stored = sets-eq vs (onto ws words) n (omega (arith, onto-length_lem ws words)) in
-    let front = onto-take_lem ws words n e (omega arith) in
+    let stored = sets-eq vs (onto ws words) n (omega (arith, onto-length ws words)) in
+    let front = onto-take ws words n e (omega arith) in
     let shifted : drop (length ws + length vs) (onto ws words) ≡ drop (length ws + length vs) words =
     ap (drop (length ws + length vs)) (onto_long ws words (omega arith)) ∙ drop-append-add ws (drop (length ws) words) (length vs)
     ∙ drop-drop (length vs) (length ws) words in

@@ -169,7 +169,7 @@ pub fn order(
       number = result;
       lists = record {
         file = record {
-          nexts = nexts.exit.now;
+          nexts = nexts.new;
           resets = resets.new;
           gates = gates.new;
           sizes = sizes.new;
@@ -181,7 +181,7 @@ pub fn order(
           triples = triples.new;
         };
         images = record {
-          map = map.exit.now;
+          map = map.new;
           next_images = next_images.new;
           reset_images = reset_images.new;
           root_images = root_images.new;
@@ -193,7 +193,7 @@ pub fn order(
       words = answer.new;
     }) ≡ ordering_seen bytes.now flags (record {
       file = record {
-        nexts = nexts.entry.now;
+        nexts = nexts.old;
         resets = resets.old;
         gates = gates.old;
         sizes = sizes.old;
@@ -205,7 +205,7 @@ pub fn order(
         triples = triples.old;
       };
       images = record {
-        map = map.entry.now;
+        map = map.old;
         next_images = next_images.old;
         reset_images = reset_images.old;
         root_images = root_images.old;

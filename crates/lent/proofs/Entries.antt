@@ -40,9 +40,9 @@ pub lookup_within : (top : ℕ) (m : List ℕ) (c : ℕ) → var c ≤ top → i
 unfolding image_of
 lookup_within top m c h = rw (le-ltb top (var c) h)
 
-pub store-within_lem : (m : List ℕ) (d t : ℕ) (i x : ℕ) → i ≡ var d → x ≡ flipped t d → set m i x ≡ store m d t
+pub store-within : (m : List ℕ) (d t : ℕ) (i x : ℕ) → i ≡ var d → x ≡ flipped t d → set m i x ≡ store m d t
 unfolding store
-store-within_lem m d t i x e f = rw (e, f)
+store-within m d t i x e f = rw (e, f)
 
 pub store_past : (m : List ℕ) (d t : ℕ) (i : ℕ) → i ≡ var d → length m ≤ i → m ≡ store m d t
 unfolding store

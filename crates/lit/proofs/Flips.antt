@@ -7,9 +7,9 @@ use native.Mathlib.Omega.{arith}
 use Rattle.lit.specs.Code.{var, is_odd, flipped}
 
 -- a flip keeps the variable, and a code of 32 bits is one afterwards
-pub flipped-var_lem : (t c : ℕ) → var (flipped t c) ≡ var t
+pub flipped-var : (t c : ℕ) → var (flipped t c) ≡ var t
 unfolding flipped
-flipped-var_lem t c = omega arith
+flipped-var t c = omega arith
 
 pub flipped_fits : (t c : ℕ) → t < 2 ^ 32 → flipped t c < 2 ^ 32
 unfolding flipped

@@ -16,9 +16,9 @@ unfolding is_odd
 signs = (refl, refl, refl, refl)
 
 -- the largest index whose code fits 32 bits, and the one after it
-pub doubled-limit_lem : (doubled (variable 2147483647) ≡ Code (literal 4294967294)) × (doubled (variable 2147483648) ≡ TooBig)
+pub doubled-limit : (doubled (variable 2147483647) ≡ Code (literal 4294967294)) × (doubled (variable 2147483648) ≡ TooBig)
 unfolding doubled
-doubled-limit_lem = (refl, refl)
+doubled-limit = (refl, refl)
 
 -- an entry's low bit is flipped by an odd code and by no other; the variable stays
 pub flips : (flipped 6 2 ≡ 6) × (flipped 6 3 ≡ 7) × (flipped 7 2 ≡ 7) × (flipped 7 3 ≡ 6) × (flipped 2 9 ≡ 3)

@@ -59,9 +59,9 @@ unfolding doubled
 doubled_big v h = rw (le-ltb (2 * v.0) 4294967296 (omega arith))
 
 -- halving undoes doubling
-pub halved-doubled_lem : (v : Var) (l : Lit) → doubled v ≡ Code l → halved l ≡ v
+pub halved-doubled : (v : Var) (l : Lit) → doubled v ≡ Code l → halved l ≡ v
 unfolding doubled
-halved-doubled_lem v l e = go (ltb (2 * v.0) 4294967296) e
+halved-doubled v l e = go (ltb (2 * v.0) 4294967296) e
   where
     go : (b : Bool) → cond b (Code (literal (2 * v.0))) TooBig ≡ Code l → halved l ≡ v
     go true d = let k : literal (2 * v.0) ≡ l = cc in ap halved (sym k) ∙ ap variable (omega arith)

@@ -21,7 +21,7 @@ use Rattle.circuit.proofs.Tests.{Same, same, other, same_test, AtMost, at_most, 
 use Rattle.circuit.proofs.Checks as checks
 use Rattle.circuit.proofs.Checks.{no_over, one_over, over_test, none_over, Stray, none_stray, one_stray, stray_test, none_stray_lem, same_place, is_first_stray}
 use Rattle.circuit.proofs.Ordered.{count_from-length, count_from_get_d}
-use Rattle.circuit.proofs.Listed.{within-left_lem, within_right, within_join}
+use Rattle.circuit.proofs.Listed.{within-left, within_right, within_join}
 use Rattle.ordered.specs.declared.given.Fault.TheVariants.{TooBig, Misshapen, Over, Reset, Disordered, Short}
 use Rattle.ordered.specs.declared.given.Checked.{Checked}
 use Rattle.ordered.specs.declared.given.Checked.TheVariants.{Fits, Faulty}
@@ -282,10 +282,10 @@ module _ (w : Words) (asked : ℕ) where
                 counts = even.roots;
                 nexts =
                     side_within bound w.nexts w.resets even.latches
-                    (within-left_lem bound (side_by_side w.nexts w.resets) _ past-gates);
+                    (within-left bound (side_by_side w.nexts w.resets) _ past-gates);
                 reset_count = even.latches;
                 resets = reset;
-                roots = within-left_lem bound w.roots _ past-nexts;
+                roots = within-left bound w.roots _ past-nexts;
                 gates = ordered;
               };
           sets = small _ (inr (inr (inr (inr (inr (inl refl))))));
@@ -335,9 +335,9 @@ module _ (w : Words) (asked : ℕ) where
       one b (is_small f) = two f (uneven_in w) (sums_test w)
 
   -- where an ordered circuit is lent no code is over the bound
-  pub given-within_lem : Given w → asked ≤ bound → AllWithin bound all
+  pub given-within : Given w → asked ≤ bound → AllWithin bound all
   unfolding first_code
-  given-within_lem k h =
+  given-within k h =
       let o = k.ordered in
       within_join bound w.gates _
       (words_within bound w.gates k.whole (λ j i. let g = o.gates j i in (omega (arith, g.1), omega (arith, g.0, g.1))))
@@ -357,7 +357,7 @@ module _ (w : Words) (asked : ℕ) where
       rw (
         is_small_lem w (in_limits w o.variables o.few k.0.sets),
         is_even w (record { roots = o.counts; justice = k.0.sizes; latches = o.reset_count; words = k.0.whole }),
-        none_over bound all (given-within_lem k.0 k.1),
+        none_over bound all (given-within k.0 k.1),
         none_stray_lem owns w.resets o.resets,
         none_loose_lem first (circuit_in w).gates o.gates,
       )

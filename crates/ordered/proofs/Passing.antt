@@ -28,7 +28,7 @@ use Rattle.ordered.specs.WellOrdered.{variables_of, WellOrdered}
 use Rattle.ordered.specs.Keeps.{Keeps}
 use Rattle.ordered.proofs.Laid.{laid_length, words_length}
 use Rattle.ordered.proofs.Exactly.{in_place, resets_within}
-use Rattle.ordered.proofs.Expansions.{all_filled, expanded_words, expanded-given_lem}
+use Rattle.ordered.proofs.Expansions.{all_filled, expanded_words, expanded-given}
 
 -- codes that are counted
 
@@ -83,7 +83,7 @@ module _ (O : Ordered) (k : WellOrdered O) (trim hash fold : Bool) where
   module _ (lists : Lists) (o : Outcome) (e : o ≡ expansion O.inputs (length O.nexts) (pair_words O.gates) lists) (f : o.answer ≡ Expanded)
       (l : Lent) (lends : Lends O trim hash fold o.lists l) where
     same : circuit_of l ≡ given O trim hash fold
-    same = expanded-given_lem O lists o e f trim hash fold l lends
+    same = expanded-given O lists o e f trim hash fold l lends
 
     pub agrees : Agrees l
     unfolding given

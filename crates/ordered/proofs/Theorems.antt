@@ -107,14 +107,14 @@ pub given_words : (w : Words) → Given w → words_of (circuit_in w) w.sizes �
 given_words = lent.given_words
 
 -- and none of its codes is over 2V + 1
-pub given-within_lem : (w : Words) (c : ℕ) → Given w → c ≤ 2 * variables_of (circuit_in w) + 1
+pub given-within : (w : Words) (c : ℕ) → Given w → c ≤ 2 * variables_of (circuit_in w) + 1
     → AllWithin (2 * variables_of (circuit_in w) + 1) (codes_in w c)
-given-within_lem = lent.given-within_lem
+given-within = lent.given-within
 
 -- of an ordered circuit whose gates are lent as words, a success leaves the lists of the circuit `given`
-pub expanded-given_lem : (O : Ordered) (lists : Lists) (o : Outcome) → o ≡ expansion O.inputs (length O.nexts) (pair_words O.gates) lists
+pub expanded-given : (O : Ordered) (lists : Lists) (o : Outcome) → o ≡ expansion O.inputs (length O.nexts) (pair_words O.gates) lists
     → o.answer ≡ Expanded → (trim hash fold : Bool) (l : Lent) → Lends O trim hash fold o.lists l → circuit_of l ≡ given O trim hash fold
-expanded-given_lem = expansions.expanded-given_lem
+expanded-given = expansions.expanded-given
 
 -- a well ordered circuit passes check 1, check 2 but for the words that are lent, and checks 4 and 22 as it is given, under any flags
 pub given_passes : (O : Ordered) → WellOrdered O → (trim hash fold : Bool) → Within (given O trim hash fold) × Bounded (given O trim hash fold)

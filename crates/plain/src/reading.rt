@@ -9,14 +9,14 @@ use token_reader::TokenReader;
 
 // The reader past both.
 fn standing<'a>(s: &'a [u8], before: Token, last: Token) -> TokenReader<'a>
-    ensures { result ≡ moved_past (moved_past (starting s.entry) before) last }
+    ensures { result ≡ moved_past (moved_past (starting s) before) last }
 {
     token_reader::moved(token_reader::moved(token_reader::new(s), before), last)
 }
 
 // The same where the last answer is a pair.
 fn standing_pair<'a>(s: &'a [u8], before: Token, last: PairToken) -> TokenReader<'a>
-    ensures { result ≡ moved_past_pair (moved_past (starting s.entry) before) last }
+    ensures { result ≡ moved_past_pair (moved_past (starting s) before) last }
 {
     token_reader::moved_pair(token_reader::moved(token_reader::new(s), before), last)
 }

@@ -167,21 +167,21 @@ take_within n l =
     min_cases n (length l) _ (λ _ e. ap (λ (k : ℕ). take k l) e)
     (λ over e. ap (λ (k : ℕ). take k l) e ∙ take_all (length l) l (omega arith) ∙ sym (take_all n l over))
 
-pub drop-within_lem : (n : ℕ) (l : List ℕ) → drop (min n (length l)) l ≡ drop n l
-drop-within_lem n l =
+pub drop-within : (n : ℕ) (l : List ℕ) → drop (min n (length l)) l ≡ drop n l
+drop-within n l =
     min_cases n (length l) _ (λ _ e. ap (λ (k : ℕ). drop k l) e)
     (λ over e. ap (λ (k : ℕ). drop k l) e ∙ drop_of_length-le l {i = length l} (omega arith) ∙ sym (drop_of_length-le l over))
 
-pub part-within_lem : (n f : ℕ) (l : List ℕ) → take (min (n + f) (length l) - min n (length l)) (drop (min n (length l)) l) ≡ take f (drop n l)
-part-within_lem n f l =
+pub part-within : (n f : ℕ) (l : List ℕ) → take (min (n + f) (length l) - min n (length l)) (drop (min n (length l)) l) ≡ take f (drop n l)
+part-within n f l =
     let long = length-drop n l in
     let k : min (n + f) (length l) - min n (length l) ≡ min f (length (drop n l)) = omega arith in
-    ap (λ (d : List ℕ). take (min (n + f) (length l) - min n (length l)) d) (drop-within_lem n l)
+    ap (λ (d : List ℕ). take (min (n + f) (length l) - min n (length l)) d) (drop-within n l)
     ∙ ap (λ (m : ℕ). take m (drop n l)) k ∙ take_within f (drop n l)
 
-pub rest-within_lem : (n : ℕ) (l : List ℕ) → take (length l - min n (length l)) (drop (min n (length l)) l) ≡ drop n l
-rest-within_lem n l =
-    take_all (length l - min n (length l)) (drop (min n (length l)) l) (omega (arith, length-drop (min n (length l)) l)) ∙ drop-within_lem n l
+pub rest-within : (n : ℕ) (l : List ℕ) → take (length l - min n (length l)) (drop (min n (length l)) l) ≡ drop n l
+rest-within n l =
+    take_all (length l - min n (length l)) (drop (min n (length l)) l) (omega (arith, length-drop (min n (length l)) l)) ∙ drop-within n l
 
 pub roots_parts : (h : Header) (r : Roots) (fair just : ℕ) → fair ≡ min (first_roots h) (length r.roots)
     → just ≡ min (first_roots h + h.fairness) (length r.roots)
@@ -190,4 +190,4 @@ pub roots_parts : (h : Header) (r : Roots) (fair just : ℕ) → fair ≡ min (f
     ++ (lines_bytes (take (length r.roots - just) (drop just r.roots)) ++ lines_bytes (take (just - fair) (drop fair r.roots))))
 unfolding roots_bytes
 roots_parts h r fair just f j =
-    rw (f, j, take_within, rest-within_lem (first_roots h + h.fairness), part-within_lem (first_roots h) h.fairness)
+    rw (f, j, take_within, rest-within (first_roots h + h.fairness), part-within (first_roots h) h.fairness)

@@ -141,19 +141,19 @@ module _ (h cs : List ℕ) (taken : Taken h) (all : length cs ≡ code_count h) 
       ∙ take-append-drop (input_count h) cs
 
   -- check 4 on the codes themselves
-  pub codes-over_lem : (c : ℕ) → first_over (2 * top_of h + 1) cs ≡ some c → refused_line 4 c ≡ out_text (circuit_on h cs) (renumber (circuit_on h cs))
+  pub codes-over : (c : ℕ) → first_over (2 * top_of h + 1) cs ≡ some c → refused_line 4 c ≡ out_text (circuit_on h cs) (renumber (circuit_on h cs))
   unfolding circuit_on
-  codes-over_lem c e =
+  codes-over c e =
       over_text (circuit_on h cs) c (ap (first_over (2 * top_of h + 1)) codes_are ∙ e) ∙ ap (out_text (circuit_on h cs)) (sym (sheet_before h cs))
 
   pub codes_words : first_over (2 * top_of h + 1) cs ≡ none → Words cs
   codes_words e i less = omega (arith, none_over (2 * top_of h + 1) cs e i less, bounds taken)
 
-pub lists-circuit_lem : (h cs : List ℕ) {is ss ns gs rs : List ℕ} → is ≡ input_codes h cs → ss ≡ states_of (latch_words h cs)
+pub lists-circuit : (h cs : List ℕ) {is ss ns gs rs : List ℕ} → is ≡ input_codes h cs → ss ≡ states_of (latch_words h cs)
     → ns ≡ nexts_of (latch_words h cs) → gs ≡ gate_words h cs → rs ≡ root_codes h cs
     → circuit_in h is ss ns gs rs ≡ circuit_on h cs
 unfolding circuit_on
-lists-circuit_lem h cs p q r s t = rw (p, q, r, s, t)
+lists-circuit h cs p q r s t = rw (p, q, r, s, t)
 
 pub lists_shaped : (h cs : List ℕ) → Taken h → length cs ≡ code_count h → {is ss ns gs rs : List ℕ}
     → is ≡ input_codes h cs → ss ≡ states_of (latch_words h cs) → ns ≡ nexts_of (latch_words h cs) → gs ≡ gate_words h cs → rs ≡ root_codes h cs
@@ -184,7 +184,7 @@ module _ (h cs : List ℕ) (taken : Taken h) (room : length cs ≡ 7161) (n : �
   pub over_refused : (c : ℕ) → Over c ≡ offender (first_over (2 * top_of h + 1) (take n cs))
       → refused_line 4 c ≡ out_text (circuit_on h (take (code_count h) cs)) (renumber (circuit_on h (take (code_count h) cs)))
   over_refused c e =
-      codes-over_lem h (take (code_count h) cs) taken (ap length (sym counted) ∙ codes_long ∙ count) c
+      codes-over h (take (code_count h) cs) taken (ap length (sym counted) ∙ codes_long ∙ count) c
       (ap (first_over (2 * top_of h + 1)) (sym counted) ∙ some_found (2 * top_of h + 1) (take n cs) c e)
 
 -- the record of a header, its numbers read one by one

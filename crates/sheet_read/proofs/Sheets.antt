@@ -11,7 +11,7 @@ use lib.Seq.{length-take-le, drop-append-le, drop-length}
 use Rattle.token.specs.Answer.{reason_number}
 use Rattle.token.specs.declared.Reason.{Reason}
 use Rattle.circuit.specs.Outcome.{onto}
-use Rattle.circuit.proofs.Outcome.{onto_long, onto_whole, onto_none, onto-length_lem, onto-take_lem}
+use Rattle.circuit.proofs.Outcome.{onto_long, onto_whole, onto_none, onto-length, onto-take}
 use Rattle.sheet_read.specs.declared.Ended.{Ended}
 use Rattle.sheet_read.specs.declared.Ended.TheVariants.{After, Broken}
 use Rattle.sheet_read.specs.declared.Reading.{Reading}
@@ -47,14 +47,14 @@ module _ (s h cs : List ℕ) (at : ℕ) where
     read_is x e =
         rw (within, le-ltb 7 (flags_of h) flags, ← count) (ap (codes_read s h (numbers_at s at n).numbers) (sym fills.0) ∙ e)
 
-    codes-left_lem : cs' ≡ onto (numbers_at s at n).numbers cs
-    codes-left_lem = onto_front (numbers_at s at n).numbers cs front cs' n (run_few s at n) room fills.1 left
+    codes-left : cs' ≡ onto (numbers_at s at n).numbers cs
+    codes-left = onto_front (numbers_at s at n).numbers cs front cs' n (run_few s at n) room fills.1 left
 
     told : (r : Reading) → codes_read s h (numbers_at s at n).numbers end ≡ read_as r h (numbers_at s at n).numbers
         → ReadsCodes (header_read s h (After at)) r cs cs'
     told r e =
         let x = read_is (read_as r h (numbers_at s at n).numbers) e in
-        (sym (ap (λ (y : Read). y.reading) x), codes-left_lem ∙ ap (λ (y : Read). onto y.codes cs) (sym x))
+        (sym (ap (λ (y : Read). y.reading) x), codes-left ∙ ap (λ (y : Read). onto y.codes cs) (sym x))
 
     pub lists_more : (r : Reading) (place : ℕ) → r ≡ Faulty 2 0 → end ≡ After place → place < length s → ReadsCodes (header_read s h (After at)) r cs cs'
     lists_more r place e k more = told r (rw (k, lt-ltb place (length s) more, e))
@@ -190,9 +190,9 @@ sheet_got s h₀ h cs₀ cs r ten room reads w =
     let few : code_count (read_of s).header ≤ 7161 = codes_few t.0 in
     record {
       taken = subst⁻¹ Taken same t.0;
-      room = ap length reads.2 ∙ onto-length_lem (read_of s).codes cs₀ ∙ room;
+      room = ap length reads.2 ∙ onto-length (read_of s).codes cs₀ ∙ room;
       header = same;
       codes =
           ap (λ (l : List ℕ). take (code_count l) cs) same ∙ ap (take (code_count (read_of s).header)) reads.2
-          ∙ onto-take_lem (read_of s).codes cs₀ (code_count (read_of s).header) t.1 (omega (arith, few, room));
+          ∙ onto-take (read_of s).codes cs₀ (code_count (read_of s).header) t.1 (omega (arith, few, room));
     }

@@ -138,9 +138,9 @@ module _ {out₀ : List ℕ} {at : ℕ} {whole out : List ℕ} {place : ℕ} {re
       }
 
   -- all that is left is put
-  pub onward-last_lem : (out' : List ℕ) (place' : ℕ) → out' ≡ put_all out place rest → place' ≡ further place (length rest)
+  pub onward-last : (out' : List ℕ) (place' : ℕ) → out' ≡ put_all out place rest → place' ≡ further place (length rest)
       → (out' ≡ put_all out₀ at whole) × (place' ≡ further at (length whole))
-  onward-last_lem out' place' e f = (e ∙ o.left, f ∙ o.after)
+  onward-last out' place' e f = (e ∙ o.left, f ∙ o.after)
 
   -- nothing is left
   pub onward_none : rest ≡ [] → place ≤ last → (out ≡ put_all out₀ at whole) × (place ≡ further at (length whole))

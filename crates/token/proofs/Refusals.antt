@@ -109,8 +109,8 @@ module _ (s : List ℕ) (at v n limit : ℕ) (e : uint_at s at ≡ Value v n) wh
 pub within_fits : (limit at v n : ℕ) → v ≤ limit → within limit at (Value v n) ≡ Value v n
 within_fits limit at v n h = rw (le-leb v limit h)
 
-pub within-over_lem : (limit at v n : ℕ) → limit < v → within limit at (Value v n) ≡ Refused OverLimit at
-within-over_lem limit at v n h = rw (lt-leb v limit h)
+pub within-over : (limit at v n : ℕ) → limit < v → within limit at (Value v n) ≡ Refused OverLimit at
+within-over limit at v n h = rw (lt-leb v limit h)
 
 -- the place
 

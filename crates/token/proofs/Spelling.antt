@@ -107,9 +107,9 @@ digits_left : (xs : List ℕ) (d : ℕ) → Digits (xs ++ (d ∷ [])) → Digits
 digits_left [] d h = (tt, h.0)
 digits_left (x ∷ xs) d h = let r = digits_left xs d h.1 in ((h.0, r.0), r.1)
 
-plain-left_lem : (x : ℕ) (xs : List ℕ) (d : ℕ) → Plain ((x ∷ xs) ++ (d ∷ [])) → Plain (x ∷ xs) × (48 < x)
-plain-left_lem x [] d h = (tt, h)
-plain-left_lem x (y ∷ xs) d h = (h, h)
+plain-left : (x : ℕ) (xs : List ℕ) (d : ℕ) → Plain ((x ∷ xs) ++ (d ∷ [])) → Plain (x ∷ xs) × (48 < x)
+plain-left x [] d h = (tt, h)
+plain-left x (y ∷ xs) d h = (h, h)
 
 small_first : (k v : ℕ) → v < 10 → digits_up_to k v ≡ (48 + v) ∷ []
 small_first zero v h = refl
@@ -132,7 +132,7 @@ by_last zero (x ∷ xs) d rec n h p = absurd (omega (arith, length-append xs (d 
 by_last (suc k) (x ∷ xs) d rec n h p =
     let v : ℕ = decimal_value (x ∷ xs) in
     let l = digits_left (x ∷ xs) d h in
-    let q = plain-left_lem x xs d p in
+    let q = plain-left x xs d p in
     let big : 0 * 10 + (x - 48) ≤ v = decimal_grows (0 * 10 + (x - 48)) xs in
     let w : decimal_value ((x ∷ xs) ++ (d ∷ [])) ≡ v * 10 + (d - 48) = decimal_snoc 0 (x ∷ xs) d in
     let a : (v * 10 + (d - 48)) / 10 ≡ v = omega (arith, l.1.1) in

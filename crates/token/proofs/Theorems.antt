@@ -180,6 +180,6 @@ pub limit_inclusive : (s : List ℕ) (at v n limit : ℕ) → uint_at s at ≡ V
     → (header_field_at s at limit ≡ Value v n) × (lit_at s at limit false ≡ Value v n) × (symbol_index_at s at limit ≡ Value v n)
 limit_inclusive s at v n limit e h = refusals.all_limited s at v n limit e (Value v n) (refusals.within_fits limit at v n h)
 
-pub over-limit-last_lem : (s : List ℕ) (at v n limit : ℕ) → uint_at s at ≡ Value v n → limit < v
+pub over-limit-last : (s : List ℕ) (at v n limit : ℕ) → uint_at s at ≡ Value v n → limit < v
     → (header_field_at s at limit ≡ Refused OverLimit at) × (lit_at s at limit false ≡ Refused OverLimit at) × (symbol_index_at s at limit ≡ Refused OverLimit at)
-over-limit-last_lem s at v n limit e h = refusals.all_limited s at v n limit e (Refused OverLimit at) (refusals.within-over_lem limit at v n h)
+over-limit-last s at v n limit e h = refusals.all_limited s at v n limit e (Refused OverLimit at) (refusals.within-over limit at v n h)

@@ -98,8 +98,8 @@ module _ {M : Type 1} {𝓤 : Ura M} (𝓛 : Logic 𝓤) (mem : Memory → SProp
 
 -- 2. A refusal leaves the reader as it was.
 
-pub refusal-leaves_lem : (r : TokenReader) (why : Reason) (place : ℕ) → moved_past r (Refused why place) ≡ r
-refusal-leaves_lem r why place = refl
+pub refusal-leaves : (r : TokenReader) (why : Reason) (place : ℕ) → moved_past r (Refused why place) ≡ r
+refusal-leaves r why place = refl
 
 pub refused_pair_leaves : (r : TokenReader) (why : Reason) (place : ℕ) → moved_past_pair r (PairRefused why place) ≡ r
 refused_pair_leaves r why place = refl
@@ -151,9 +151,9 @@ module _ (r : TokenReader) (short : length r.bytes.now ≤ last) where
       let u = decimal_uses r.bytes.now r.at v n (symbol_index_read r.bytes.now r.at limit v n e) in
       moves r _ v n e (omega arith)
 
-  pub after-pair_lem : (code a b n : ℕ) → pair_at r.bytes.now r.at code ≡ Inputs a b n
+  pub after-pair : (code a b n : ℕ) → pair_at r.bytes.now r.at code ≡ Inputs a b n
       → moved_past_pair r (pair_at r.bytes.now r.at code) ≡ placed r (r.at + n)
-  after-pair_lem code a b n e =
+  after-pair code a b n e =
       let u = pair_uses r.bytes.now r.at code a b n e in
       moves_pair r _ a b n e (omega arith)
 

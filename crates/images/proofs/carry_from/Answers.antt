@@ -5,7 +5,7 @@ use mathlib.Core.Path.{◌≡◌, refl, ◌∙◌}
 use mathlib.Core.List.{◌++◌}
 use lib.ListN.{length, take, drop, length-set}
 use Rattle.circuit.specs.Ordered.{carried_from}
-use Rattle.circuit.proofs.Carried.{carried-length_lem}
+use Rattle.circuit.proofs.Carried.{carried-length}
 use Rattle.lent.proofs.Rows.{onto_all, onto_full}
 use Rattle.images.proofs.Few.{carried_more}
 use Rattle.images.proofs.carry_from.Goals as goal
@@ -20,7 +20,7 @@ shape_of-list-then-list-i c =
 pub returns-then-list-i : goal.returns-then-list-i
 returns-then-list-i c =
     let a = c.args in
-    c.loop-i.invariant.4 ∙ onto_full (carried_from a.first a.resets.now) _ _ (omega (arith, c.loop-i.invariant.0, carried-length_lem a.first a.resets.now)) c.loop-i.invariant.1
+    c.loop-i.invariant.4 ∙ onto_full (carried_from a.first a.resets.now) _ _ (omega (arith, c.loop-i.invariant.0, carried-length a.first a.resets.now)) c.loop-i.invariant.1
     (omega (arith, c.loop-i.invariant.2, c.if-list-i.true))
 
 pub offset_bounds-resets-i : goal.offset_bounds-resets-i
@@ -68,5 +68,5 @@ shape_of-list c =
 pub returns : goal.returns
 returns c =
     let a = c.args in
-    c.loop-i.invariant.4 ∙ onto_all (carried_from a.first a.resets.now) _ _ (omega (arith, c.loop-i.invariant.0, carried-length_lem a.first a.resets.now))
-    (omega (arith, c.loop-i-test.false, carried-length_lem a.first a.resets.now)) c.loop-i.invariant.1
+    c.loop-i.invariant.4 ∙ onto_all (carried_from a.first a.resets.now) _ _ (omega (arith, c.loop-i.invariant.0, carried-length a.first a.resets.now))
+    (omega (arith, c.loop-i-test.false, carried-length a.first a.resets.now)) c.loop-i.invariant.1

@@ -5,7 +5,7 @@ use mathlib.Core.Path.{◌≡◌, refl, ◌∙◌}
 use mathlib.Core.List.{◌++◌}
 use lib.ListN.{length, take, drop, length-set}
 use Rattle.circuit.specs.Ordered.{carried_from}
-use Rattle.circuit.proofs.Carried.{carried-length_lem}
+use Rattle.circuit.proofs.Carried.{carried-length}
 use Rattle.lent.proofs.Rows.{onto_all, onto_full}
 use Rattle.images.proofs.Few.{carried_more}
 use Rattle.images.proofs.carry_from.Given as goal

@@ -45,8 +45,7 @@ shape_of-answer c = simp length-set
 pub returns : goal.returns
 returns c =
     let a = c.args in
-    let counts_five = length_unmapped ℕ a.read.counts 5 (omega arith) in
-    words_put a.read c.top_of-top.result a.answer.now c.requires counts_five c.first_word-first.ensures c.word-inputs.ensures.same
+    words_put a.read c.top_of-top.result a.answer.now c.requires (search rules) c.first_word-first.ensures c.word-inputs.ensures.same
     c.word-latches.ensures.same c.word-gates.ensures.same c.word-outputs.ensures.same c.word-bad.ensures.same
     c.word-constraints.ensures.same c.word-fairness.ensures.same c.word-justice.ensures.same c.word-sets.ensures.same
     ∙ ap (λ (m : ℕ). onto (answer_words m a.read) a.answer.now) c.top_of-top.ensures

@@ -12,9 +12,8 @@ shape_of-answer c =
 
 pub returns : goal.returns
 returns c =
-    let a = c.args in
-    let counts_five = length_unmapped ℕ a.said.read.counts 5 (omega arith) in (
+    let a = c.args in (
       c.number.ensures,
-      order_put a.said a.answer.now c.requires counts_five _ _ _ _ _ c.put_file.ensures c.word-made.ensures.same
+      order_put a.said a.answer.now c.requires (search rules) _ _ _ _ _ c.put_file.ensures c.word-made.ensures.same
           c.byte_count-bytes.ensures c.who_refused-who.ensures c.put_end.ensures,
     )

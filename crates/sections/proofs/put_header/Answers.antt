@@ -5,7 +5,7 @@ use mathlib.Core.List.{List, [], ◌∷◌, ◌++◌}
 use native.Mathlib.Omega.{arith}
 use lib.ListN.{take}
 use lib.Seq.{length-take-le}
-use Rattle.text.proofs.Puts.{onward_all, onward, onward-last_lem}
+use Rattle.text.proofs.Puts.{onward_all, onward, onward-last}
 use Rattle.sections.specs.Bytes.{counts_bytes, counts_of, after_tag, header_bytes}
 use Rattle.sections.proofs.Parts.{nine, counts_front, kept_few}
 use borrow.Author.Rules.{rules}
@@ -34,4 +34,4 @@ returns c =
     let counted =
     onward tagged put (10 ∷ []) (ap (λ (l : List ℕ). l ++ (10 ∷ [])) (sym front)) _ _ (omega arith) c.put_counts-after_counts.ensures.0
     c.put_counts-after_counts.ensures.1 in
-    onward-last_lem counted _ _ c.put.ensures.0 c.put.ensures.1
+    onward-last counted _ _ c.put.ensures.0 c.put.ensures.1

@@ -3,7 +3,7 @@ use mathlib.Core.Path.{refl}
 use mathlib.Core.List.{[], ◌∷◌, ◌++◌}
 use native.Mathlib.Omega.{arith}
 use Rattle.token.specs.Format.{digits_of}
-use Rattle.text.proofs.Puts.{onward_all, onward, onward-last_lem}
+use Rattle.text.proofs.Puts.{onward_all, onward, onward-last}
 use Rattle.sections.specs.Bytes.{reset_bytes, latch_bytes}
 use borrow.Author.Rules.{rules}
 use Rattle.sections.proofs.put_latch.Goals as goal
@@ -17,4 +17,4 @@ returns c =
     let rest = reset_bytes reset ++ (10 ∷ []) in
     let digits = onward all (digits_of next) rest refl _ _ (omega arith) c.put_decimal-after_next.ensures.0 c.put_decimal-after_next.ensures.1 in
     let field = onward digits (reset_bytes reset) (10 ∷ []) refl _ _ (omega arith) c.put_reset-after_reset.ensures.0 c.put_reset-after_reset.ensures.1 in
-    onward-last_lem field _ _ c.put.ensures.0 c.put.ensures.1
+    onward-last field _ _ c.put.ensures.0 c.put.ensures.1

@@ -5,7 +5,7 @@ use mathlib.Core.List.{◌++◌}
 use native.Mathlib.Omega.{arith}
 use lib.ListN.{length, take, drop}
 use lib.Seq.{length-take-le}
-use Rattle.text.proofs.Puts.{onward_all, onward, onward-last_lem}
+use Rattle.text.proofs.Puts.{onward_all, onward, onward-last}
 use Rattle.lines.specs.Sections.{roots_of}
 use Rattle.sections.specs.Bytes.{lines_bytes, roots_bytes}
 use Rattle.sections.proofs.Parts.{roots_parts}
@@ -35,4 +35,4 @@ returns c =
     onward after_first (lines_bytes sizes) (justice ++ fairness) refl _ _ (omega arith) c.put_lines-after_sizes.ensures.0 c.put_lines-after_sizes.ensures.1 in
     let after_justice =
     onward after_sizes justice fairness refl _ _ (omega arith) c.put_lines-after_justice.ensures.0 c.put_lines-after_justice.ensures.1 in
-    onward-last_lem after_justice _ _ c.put_lines.ensures.0 c.put_lines.ensures.1
+    onward-last after_justice _ _ c.put_lines.ensures.0 c.put_lines.ensures.1

@@ -1,5 +1,4 @@
 -- `verdict::plan` meets its contract: each case is one of the definition's. Assumes nothing.
-use borrow.Author.Rules.{rules}
 use mathlib.Core.Path.{◌∙◌}
 use Rattle.aig_records.proofs.Judging.{plans_reset, plans_all}
 use Rattle.aig_records.proofs.verdict.plan.Goals as goal

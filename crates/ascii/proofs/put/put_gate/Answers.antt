@@ -3,7 +3,7 @@ use mathlib.Core.Path.{refl}
 use mathlib.Core.List.{[], ◌∷◌, ◌++◌}
 use native.Mathlib.Omega.{arith}
 use Rattle.token.specs.Format.{digits_of}
-use Rattle.text.proofs.Puts.{onward_all, onward, onward-last_lem}
+use Rattle.text.proofs.Puts.{onward_all, onward, onward-last}
 use Rattle.sections.specs.Bytes.{count_bytes}
 use Rattle.ascii.specs.Write.{gate_line}
 use borrow.Author.Rules.{rules}
@@ -20,4 +20,4 @@ returns c =
     let after_output = onward all (digits_of output) rest refl _ _ (omega arith) c.put_decimal-after_output.ensures.0 c.put_decimal-after_output.ensures.1 in
     let after_first = onward after_output first (second ++ (10 ∷ [])) refl _ _ (omega arith) c.put_count-after_first.ensures.0 c.put_count-after_first.ensures.1 in
     let after_second = onward after_first second (10 ∷ []) refl _ _ (omega arith) c.put_count-after_second.ensures.0 c.put_count-after_second.ensures.1 in
-    onward-last_lem after_second _ _ c.put.ensures.0 c.put.ensures.1
+    onward-last after_second _ _ c.put.ensures.0 c.put.ensures.1

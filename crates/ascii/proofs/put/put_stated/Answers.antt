@@ -3,7 +3,7 @@ use mathlib.Core.Path.{refl}
 use mathlib.Core.List.{[], ◌∷◌}
 use native.Mathlib.Omega.{arith}
 use Rattle.token.specs.Format.{digits_of}
-use Rattle.text.proofs.Puts.{onward_all, onward, onward-last_lem}
+use Rattle.text.proofs.Puts.{onward_all, onward, onward-last}
 use Rattle.sections.specs.Bytes.{latch_bytes}
 use Rattle.ascii.specs.Write.{stated_bytes}
 use borrow.Author.Rules.{rules}
@@ -17,4 +17,4 @@ returns c =
     let all = onward_all c.args.out.now c.args.at (stated_bytes state c.args.next c.args.reset) in
     let digits = onward all (digits_of state) (32 ∷ line) refl _ _ (omega arith) c.put_decimal-after_state.ensures.0 c.put_decimal-after_state.ensures.1 in
     let space = onward digits (32 ∷ []) line refl _ _ (omega arith) c.put-after_space.ensures.0 c.put-after_space.ensures.1 in
-    onward-last_lem space _ _ c.put_latch.ensures.0 c.put_latch.ensures.1
+    onward-last space _ _ c.put_latch.ensures.0 c.put_latch.ensures.1

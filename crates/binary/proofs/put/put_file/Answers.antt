@@ -4,7 +4,7 @@ use mathlib.Core.List.{List, ◌++◌}
 use Prim.Native.Nat.{ℕ, ◌+◌}
 use native.Mathlib.Omega.{arith}
 use lib.ListN.{length}
-use Rattle.text.proofs.Puts.{onward_all, onward, onward-last_lem}
+use Rattle.text.proofs.Puts.{onward_all, onward, onward-last}
 use Rattle.circuit.specs.Walk.{first_code}
 use Rattle.circuit.specs.Ordered.{InOrder}
 use Rattle.circuit.specs.Outcome.{pairs_of}
@@ -41,4 +41,4 @@ returns c =
     let rooted =
     onward latched roots made (ap (λ (l : List ℕ). roots ++ l) (sym from)) _ _ (omega arith) c.put_roots-after_roots.ensures.0
     c.put_roots-after_roots.ensures.1 in
-    onward-last_lem rooted _ _ c.put_gates.ensures.0 c.put_gates.ensures.1
+    onward-last rooted _ _ c.put_gates.ensures.0 c.put_gates.ensures.1

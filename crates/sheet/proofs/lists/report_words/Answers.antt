@@ -9,7 +9,7 @@ use Rattle.sheet_read.specs.Sheet.{input_count, latch_count, gate_count}
 use Rattle.sheet.specs.Report.{out_text}
 use Rattle.sheet_read.proofs.Headers.{bounds}
 use Rattle.sheet_lines.proofs.Texts.{put_same}
-use Rattle.sheet.proofs.Circuits.{part_of, part-rest, inputs_long, part_long, states_front, nexts_front, parts_end, gates_end_lem, lists-circuit_lem, lists_shaped}
+use Rattle.sheet.proofs.Circuits.{part_of, part-rest, inputs_long, part_long, states_front, nexts_front, parts_end, gates_end_lem, lists-circuit, lists_shaped}
 use Rattle.sheet.proofs.lists.report_words.Goals as goal
 
 pub overflow_mul-gates_end : goal.overflow_mul-gates_end
@@ -118,8 +118,17 @@ returns c =
     let split_nexts = c.split.new.nexts in
     let a = c.args in
     put_same c.report_circuit.ensures (ap (λ (C : Circuit). out_text C (renumber C))
-    (lists-circuit_lem a.header.now a.words.now refl
+    (lists-circuit a.header.now a.words.now refl
     (states_front a.header.now a.words.now c.requires.0 c.requires.1 (split_states) _ c.split.ensures.0).same
     (nexts_front a.header.now a.words.now c.requires.0 c.requires.1 (split_nexts) _ c.split.ensures.1).same
     (part_of (input_count a.header.now) (3 * gate_count a.header.now) a.words.now)
     (part-rest (input_count a.header.now + 3 * gate_count a.header.now + 2 * latch_count a.header.now) a.words.now)))
+
+pub slice_bounds-split-end : goal.slice_bounds-split-end
+slice_bounds-split-end c = parts_end c.args.header.now c.args.words.now c.requires.0 c.requires.1
+
+pub slice_bounds-report_circuit-end-4 : goal.slice_bounds-report_circuit-end-4
+slice_bounds-report_circuit-end-4 c = gates_end_lem c.args.header.now c.args.words.now c.requires.0 c.requires.1
+
+pub slice_bounds-report_circuit-start-2 : goal.slice_bounds-report_circuit-start-2
+slice_bounds-report_circuit-start-2 c = parts_end c.args.header.now c.args.words.now c.requires.0 c.requires.1
