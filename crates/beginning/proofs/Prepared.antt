@@ -1,6 +1,6 @@
 -- The steps of `prepare` leave what the definition says. Assumes nothing.
 use Prim.Native.Nat.{ℕ, ◌+◌, ◌*◌, ◌/◌, ◌<◌, ◌≤◌}
-use mathlib.Core.Path.{◌≡◌, refl, sym, ap, ◌∙◌}
+use mathlib.Core.Path.{◌≡◌, sym}
 use mathlib.Core.List.{List, ◌++◌}
 use native.Mathlib.Omega.{arith}
 use lib.ListN.{length, take, drop, length-append, length-take, length-drop}
@@ -10,8 +10,8 @@ use Rattle.circuit.specs.Outcome.{gates_of, zeros, onto}
 use Rattle.checks.specs.declared.Check.{Check}
 use Rattle.checks.specs.declared.Check.TheVariants.{Failed}
 use Rattle.images.specs.Begin.{begun}
-use Rattle.defs.specs.Define.{Judged, judged, define_all}
-use Rattle.beginning.specs.Beginning.{Ready, ready_of, cleaned, with_table, prepared}
+use Rattle.defs.specs.Define.{judged, define_all}
+use Rattle.beginning.specs.Beginning.{ready_of, prepared}
 
 -- a front and what stood past it are as long as the list
 pub whole : (n : ℕ) (x y : List ℕ) → length y ≡ length (take n x) → length (y ++ drop n x) ≡ length x

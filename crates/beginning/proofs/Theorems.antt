@@ -1,6 +1,6 @@
 -- Any two outcomes that the contract of this crate's function allows for the same arguments are equal: the answer, and each lent word. Assumes nothing.
 use Prim.Native.Nat.{ℕ}
-use mathlib.Core.Path.{◌≡◌, sym, ◌∙◌, ap}
+use mathlib.Core.Path.{sym, ◌∙◌, ap}
 use mathlib.Core.List.{List}
 use Rattle.promise.specs.Determined.{DeterminesCells}
 use Rattle.beginning.specs.Beginning.{Ready}

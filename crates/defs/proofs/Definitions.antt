@@ -12,7 +12,6 @@ use Rattle.circuit.specs.declared.Refusal.TheVariants.{Again, StateAgain}
 use Rattle.circuit.specs.Graph.{Gate}
 use Rattle.circuit.specs.Outcome.{gates_of}
 use Rattle.circuit.proofs.Words.{gates_length}
-use Rattle.circuit.proofs.Words as W
 use Rattle.circuit.specs.Claims.{gate_at}
 use Rattle.checks.specs.declared.Found.{Found}
 use Rattle.checks.specs.declared.Found.TheVariants as F

@@ -1,6 +1,6 @@
 -- Any two outcomes that the contract of this crate's public function allows for the same arguments are equal: the answer, and each word of the table.
 -- Assumes nothing.
-use mathlib.Core.Path.{◌≡◌, sym, ap, ◌∙◌}
+use mathlib.Core.Path.{sym, ap, ◌∙◌}
 use Rattle.promise.specs.Determined.{DeterminesCells}
 use Rattle.defs.specs.Define.{Judged}
 use Rattle.defs.proofs.define_all.Kinds as all_kinds

@@ -26,7 +26,6 @@ use Rattle.checks.proofs.Offenders.{or_next, over-append}
 use Rattle.ordered.specs.declared.given.Shape.{Shape}
 use Rattle.ordered.specs.declared.given.Fault.TheVariants.{TooBig, Misshapen, Over, Reset, Disordered}
 use Rattle.ordered.specs.declared.given.Checked.{Checked}
-use Rattle.ordered.specs.declared.given.Checked.TheVariants as Checked
 use Rattle.ordered.specs.WellOrdered.{variables_of, latches_of}
 use Rattle.ordered.specs.Check.{Words, circuit_in, too_large, uneven, uneven_in, codes_of, codes_in, breaks_order, first_disordered, fault_at, first_fault, checked}
 use Rattle.ordered.proofs.Laid.{pairs_length, pairs_at}

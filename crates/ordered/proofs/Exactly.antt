@@ -2,7 +2,7 @@
 -- Assumes nothing.
 use Prim.Native.Nat.{ℕ, zero, suc, ◌+◌, ◌*◌, ◌/◌, ◌%◌, ◌<◌, ◌≤◌}
 use mathlib.Core.Path.{◌≡◌, refl, sym, ap, ◌∙◌, subst, subst⁻¹}
-use mathlib.Core.Logic.{◌⊎◌, inl, inr, ◌↔◌}
+use mathlib.Core.Logic.{inl, inr, ◌↔◌}
 use mathlib.Core.Bool.{Bool, true, false, cond, not, ◌||◌}
 use mathlib.Core.Option.{Option, none, some}
 use mathlib.Core.List.{List, [], ◌∷◌, ◌++◌}
@@ -16,8 +16,8 @@ use Rattle.circuit.specs.Circuit.{first_over, first_stray}
 use Rattle.circuit.specs.Ordered.{Ordered, first_latch, sources_of, no_pair}
 use Rattle.circuit.specs.Outcome.{limit, total, pairs_of, pair_words}
 use Rattle.circuit.specs.Resets.{side_by_side}
-use Rattle.circuit.specs.Claims.{AllWithin, IsReset, AllReset, FirstOver, FirstStray}
-use Rattle.circuit.proofs.Tests.{Same, same, other, same_test, AtMost, at_most, above, le_test, lt_or}
+use Rattle.circuit.specs.Claims.{AllWithin, IsReset, AllReset, FirstOver}
+use Rattle.circuit.proofs.Tests.{Same, same, other, same_test, AtMost, at_most, above, le_test}
 use Rattle.circuit.proofs.Checks as checks
 use Rattle.circuit.proofs.Checks.{no_over, one_over, over_test, none_over, Stray, none_stray, one_stray, stray_test, none_stray_lem, same_place, is_first_stray}
 use Rattle.circuit.proofs.Ordered.{count_from-length, count_from_get_d}

@@ -1,6 +1,6 @@
 -- A spelling is ours or longer than ours. Lines, counts and roots have one spelling each. What may be longer is a latch line with a reset of 0, and a
 -- header with a zero past the last optional count that is not. Assumes nothing.
-use Prim.Native.Nat.{ℕ, zero, suc, ◌+◌, ◌-◌, ◌*◌, ◌≤◌, ◌<◌}
+use Prim.Native.Nat.{ℕ, zero, suc, ◌+◌, ◌*◌, ◌≤◌, ◌<◌}
 use mathlib.Core.Path.{◌≡◌, refl, sym, ap, ◌∙◌, subst}
 use mathlib.Core.Bool.{Bool, true, false, cond}
 use mathlib.Core.Logic.{inl, inr, ◌↔◌}

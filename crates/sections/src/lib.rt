@@ -150,10 +150,10 @@ fn first_roots(h: Header) -> usize
 // justice sizes and literals stand before fairness. The place after it.
 pub fn put_roots(out: &mut [u8], at: usize, h: Header, sizes: &[u32], roots: &[u32]) -> usize
     ensures { (out.new ≡ put_all out.old at (roots_bytes h (record {
-      sizes = sizes.old;
+      sizes = sizes.now;
       roots = roots.now;
     }))) × (result ≡ further at (length (roots_bytes h (record {
-      sizes = sizes.old;
+      sizes = sizes.now;
       roots = roots.now;
     })))) }
 {

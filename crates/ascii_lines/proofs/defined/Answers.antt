@@ -1,5 +1,4 @@
 -- `ascii_lines::defined` meets its contract: what is held to the limit fits a word, and its digits stand within the bytes. Assumes nothing.
-use borrow.Author.Rules.{rules}
 use mathlib.Core.Path.{sym, ◌∙◌}
 use native.Mathlib.Omega.{arith}
 use Rattle.lines.proofs.Answers.{number_held}

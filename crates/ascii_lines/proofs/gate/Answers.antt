@@ -1,5 +1,4 @@
 -- `ascii_lines::gate` meets its contract: each return is a case of the definition. Assumes nothing.
-use borrow.Author.Rules.{rules}
 use mathlib.Core.Path.{sym, ◌∙◌}
 use Rattle.ascii_lines.proofs.Answers.{gate_is, gate_not}
 use Rattle.ascii_lines.proofs.gate.Goals as goal

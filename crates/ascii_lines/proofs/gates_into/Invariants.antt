@@ -1,13 +1,9 @@
 -- `ascii_lines::gates_into` meets its contract: a turn of the loop stores one line more (`Going`), in the three cells from the one counted. Assumes nothing.
 use Prim.Native.Nat.{◌-◌, ◌*◌}
-use mathlib.Core.Path.{◌≡◌, refl, sym, ◌∙◌}
-use native.Mathlib.Omega.{arith}
-use Rattle.ordered.specs.Expand.{gate_words}
-use Rattle.ascii_lines.specs.Lines.{gate_at, gates_at}
+use mathlib.Core.Path.{◌≡◌}
+use Rattle.ascii_lines.specs.Lines.{gate_at}
 use Rattle.ascii_lines.specs.Promise.{put_gates}
-use Rattle.ascii_lines.proofs.Answers.{gate_got, gate_no}
-use Rattle.ascii_lines.proofs.Loops.{Going, going_none, gates_more, going_broken, going_all, numbers_keep}
-use borrow.Author.Rules.{rules}
+use Rattle.ascii_lines.proofs.Loops.{Going}
 use Rattle.ascii_lines.proofs.gates_into.Given as goal
 
 abbrev pub invariant-loop-j : goal.invariant-loop-j

@@ -1,5 +1,4 @@
 -- `ascii_lines::input` meets its contract: each return is a case of the definition. Assumes nothing.
-use borrow.Author.Rules.{rules}
 use mathlib.Core.Path.{sym, ◌∙◌}
 use Rattle.ascii_lines.proofs.Answers.{input_is, input_open, input_not}
 use Rattle.ascii_lines.proofs.input.Goals as goal

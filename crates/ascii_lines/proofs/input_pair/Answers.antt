@@ -1,5 +1,4 @@
 -- `ascii_lines::input_pair` meets its contract: each return is a case of the definition. Assumes nothing.
-use borrow.Author.Rules.{rules}
 use mathlib.Core.Path.{sym, ◌∙◌}
 use Rattle.ascii_lines.proofs.Answers.{pair_first_lem, pair_second_lem, pair_open, pair_is}
 use Rattle.ascii_lines.proofs.input_pair.Goals as goal

@@ -1,5 +1,4 @@
 -- `ascii_lines::inputs` meets its contract: what was read is in the list, and a refusal clears it. Assumes nothing.
-use borrow.Author.Rules.{rules}
 use mathlib.Core.Path.{ap, ◌∙◌}
 use Rattle.circuit.specs.Outcome.{zeros}
 use Rattle.ascii_lines.specs.Lines.{inputs_at}

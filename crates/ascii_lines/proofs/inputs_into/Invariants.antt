@@ -1,12 +1,8 @@
 -- `ascii_lines::inputs_into` meets its contract: a turn of the loop stores one line more (`Going`). Assumes nothing.
 use Prim.Native.Nat.{◌-◌}
-use mathlib.Core.Path.{refl, sym, ◌∙◌}
-use native.Mathlib.Omega.{arith}
-use Rattle.lines.proofs.Answers.{is_got, not_no}
-use Rattle.ascii_lines.specs.Lines.{input_at, inputs_at}
+use Rattle.ascii_lines.specs.Lines.{input_at}
 use Rattle.ascii_lines.specs.Promise.{put_numbers}
-use Rattle.ascii_lines.proofs.Loops.{Going, going_none, numbers_more, going_broken, going_all, numbers_keep}
-use borrow.Author.Rules.{rules}
+use Rattle.ascii_lines.proofs.Loops.{Going}
 use Rattle.ascii_lines.proofs.inputs_into.Given as goal
 
 abbrev pub invariant-loop-i : goal.invariant-loop-i

@@ -1,5 +1,4 @@
 -- `ascii_lines::latches` meets its contract: what was read is in the three lists, and a refusal clears them. Assumes nothing.
-use borrow.Author.Rules.{rules}
 use Rattle.ascii_lines.specs.Lines.{latches_at}
 use Rattle.ascii_lines.specs.Promise.{latch_lists, put_latches, no_latches}
 use Rattle.ascii_lines.proofs.Loops.{section_is, latches_cleared}

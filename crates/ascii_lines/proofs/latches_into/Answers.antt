@@ -1,12 +1,10 @@
 -- `ascii_lines::latches_into` meets its contract: a turn of the loop stores one line more (`Going`). Assumes nothing.
-use Prim.Native.Nat.{◌-◌}
 use mathlib.Core.Path.{refl, sym, ◌∙◌}
 use native.Mathlib.Omega.{arith}
-use Rattle.ascii_lines.specs.Lines.{stated_at, latches_at}
-use Rattle.ascii_lines.specs.Promise.{latch_lists, put_latches}
+use Rattle.ascii_lines.specs.Lines.{latches_at}
+use Rattle.ascii_lines.specs.Promise.{latch_lists}
 use Rattle.ascii_lines.proofs.Answers.{stated_got, stated_no}
-use Rattle.ascii_lines.proofs.Loops.{Going, going_none, latches_more, going_broken, going_all, latches_keep}
-use borrow.Author.Rules.{rules}
+use Rattle.ascii_lines.proofs.Loops.{going_none, latches_more, going_broken, going_all, latches_keep}
 use Rattle.ascii_lines.proofs.latches_into.Goals as goal
 
 pub loop-i-init : goal.loop-i-init

@@ -1,5 +1,4 @@
 -- `ascii_lines::stated` meets its contract: each return is a case of the definition. Assumes nothing.
-use borrow.Author.Rules.{rules}
 use mathlib.Core.Path.{sym, ◌∙◌}
 use Rattle.ascii_lines.proofs.Answers.{stated_is, stated_rest, stated_open, stated_not}
 use Rattle.ascii_lines.proofs.stated.Goals as goal

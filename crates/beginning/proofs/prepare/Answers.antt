@@ -3,7 +3,7 @@ use native.Mathlib.Omega.{arith}
 use Prim.Native.Nat.{◌+◌}
 use mathlib.Core.Path.{sym, ◌∙◌}
 use lib.Seq.{length-take-le}
-use Rattle.beginning.proofs.Prepared.{whole, short_map, short_scratch, prepares}
+use Rattle.beginning.proofs.Prepared.{short_map, short_scratch, prepares}
 use Rattle.beginning.proofs.prepare.Goals as goal
 
 pub overflow_add-n : goal.overflow_add-n

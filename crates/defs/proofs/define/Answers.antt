@@ -1,5 +1,4 @@
 -- `define` meets its contract: a variable is marked where its word is 0, and else is defined already. Assumes nothing.
-use borrow.Author.Rules.{rules}
 use Rattle.defs.proofs.Definitions.{define_new, define_again, define_past}
 use Rattle.defs.proofs.define.Goals as goal
 

@@ -1,5 +1,4 @@
 -- `define_all` meets its contract: the constant, inputs, gates and latch states are marked one after another, each over what the last left. Assumes nothing.
-use borrow.Author.Rules.{rules}
 use Rattle.circuit.specs.Outcome.{gates_of}
 use Rattle.defs.proofs.Definitions.{all_inputs, all_gates, all_states, all_once}
 use Rattle.defs.proofs.define_all.Goals as goal

@@ -1,12 +1,7 @@
 -- `define_gates` meets its contract: what is left to define falls by one gate a turn; gate k's output is word 3k. Assumes nothing.
 use native.Mathlib.Omega.{arith}
-use Prim.Native.Nat.{◌≤◌, ◌-◌, ◌*◌, ◌/◌}
-use mathlib.Core.Path.{◌≡◌, refl, sym, ap, ◌∙◌}
-use Rattle.lit.specs.declared.Lit.{Lit}
-use lib.ListN.{length, get_or, drop}
+use mathlib.Core.Path.{refl, sym, ◌∙◌}
 use Rattle.defs.proofs.Definitions.{gates_on, gates_again, gates_end_lem}
-use Rattle.circuit.specs.Outcome.{gates_of}
-use Rattle.defs.specs.Define.{define_gates}
 use Rattle.defs.proofs.define_gates.Goals as goal
 
 pub loop-k-init : goal.loop-k-init

@@ -1,11 +1,7 @@
 -- `define_sources` meets its contract: what is left to define falls by one literal a turn. Assumes nothing.
 use native.Mathlib.Omega.{arith}
-use Prim.Native.Nat.{◌≤◌, ◌-◌}
-use mathlib.Core.Path.{◌≡◌, refl, sym, ap, ◌∙◌}
-use Rattle.lit.specs.declared.Lit.{Lit}
-use lib.ListN.{length, get_or, drop}
+use mathlib.Core.Path.{refl, sym, ◌∙◌}
 use Rattle.defs.proofs.Definitions.{sources_on, sources_again, sources_end}
-use Rattle.defs.specs.Define.{define_sources}
 use Rattle.defs.proofs.define_sources.Goals as goal
 
 pub loop-i-init : goal.loop-i-init

@@ -1,10 +1,7 @@
 -- `define_sources` meets its contract: what is left to define falls by one literal a turn. Assumes nothing.
-use native.Mathlib.Omega.{arith}
 use Prim.Native.Nat.{◌≤◌, ◌-◌}
-use mathlib.Core.Path.{◌≡◌, refl, sym, ap, ◌∙◌}
-use Rattle.lit.specs.declared.Lit.{Lit}
-use lib.ListN.{length, get_or, drop}
-use Rattle.defs.proofs.Definitions.{sources_on, sources_again, sources_end}
+use mathlib.Core.Path.{◌≡◌}
+use lib.ListN.{length, drop}
 use Rattle.defs.specs.Define.{define_sources}
 use Rattle.defs.proofs.define_sources.Given as goal
 

@@ -1,5 +1,4 @@
 -- `mark_constant` meets its contract. Assumes nothing.
-use borrow.Author.Rules.{rules}
 use Rattle.defs.proofs.Definitions.{no_constant}
 use Rattle.defs.proofs.mark_constant.Goals as goal
 

@@ -1,5 +1,4 @@
 -- `mark_of` meets its contract. Assumes nothing.
-use borrow.Author.Rules.{rules}
 use mathlib.Core.Path.{refl}
 use Rattle.defs.specs.Define.{mark_of}
 use Rattle.defs.proofs.mark_of.Goals as goal

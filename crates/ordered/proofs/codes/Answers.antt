@@ -1,7 +1,5 @@
 -- `ordered::codes` meets its contract: a turn of the loop stores one code more (`Counting`). Assumes nothing.
-use Prim.Native.Nat.{◌-◌}
-use Rattle.ordered.proofs.Laid.{Counting, counting_none, counting_more, counting_all, counting_keeps}
-use borrow.Author.Rules.{rules}
+use Rattle.ordered.proofs.Laid.{counting_none, counting_more, counting_all, counting_keeps}
 use native.Mathlib.Omega.{arith}
 use Rattle.ordered.proofs.codes.Goals as goal
 

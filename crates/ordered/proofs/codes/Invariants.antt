@@ -1,8 +1,6 @@
 -- `ordered::codes` meets its contract: a turn of the loop stores one code more (`Counting`). Assumes nothing.
 use Prim.Native.Nat.{◌-◌}
-use Rattle.ordered.proofs.Laid.{Counting, counting_none, counting_more, counting_all, counting_keeps}
-use borrow.Author.Rules.{rules}
-use native.Mathlib.Omega.{arith}
+use Rattle.ordered.proofs.Laid.{Counting}
 use Rattle.ordered.proofs.codes.Given as goal
 
 abbrev pub invariant-loop-i : goal.invariant-loop-i

@@ -1,7 +1,6 @@
 -- `ordered::expand` meets its contract: each return is a case of the definition. Assumes nothing.
 use native.Mathlib.Omega.{arith}
 use Rattle.ordered.proofs.Expansions.{too_big_lem, misshapen, short_inputs, short_states, short_triples, expanded}
-use borrow.Author.Rules.{rules}
 use Rattle.ordered.proofs.expand.Goals as goal
 
 pub returns-then-inputs-gt-LIMIT : goal.returns-then-inputs-gt-LIMIT

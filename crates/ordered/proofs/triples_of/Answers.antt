@@ -1,8 +1,5 @@
 -- `ordered::triples_of` meets its contract: a turn of the loop stores one gate more (`Laying`). Assumes nothing.
-use Prim.Native.Nat.{◌-◌, ◌/◌}
-use Rattle.ordered.proofs.Laid.{Laying, laying_none, laying_more, laying_all, laying_keeps}
-use borrow.Author.Rules.{rules}
-use lib.ListN.{length}
+use Rattle.ordered.proofs.Laid.{laying_none, laying_more, laying_all, laying_keeps}
 use native.Mathlib.Omega.{arith}
 use Rattle.ordered.proofs.triples_of.Goals as goal
 

@@ -1,9 +1,7 @@
 -- `ordered::triples_of` meets its contract: a turn of the loop stores one gate more (`Laying`). Assumes nothing.
 use Prim.Native.Nat.{◌-◌, ◌/◌}
-use Rattle.ordered.proofs.Laid.{Laying, laying_none, laying_more, laying_all, laying_keeps}
-use borrow.Author.Rules.{rules}
+use Rattle.ordered.proofs.Laid.{Laying}
 use lib.ListN.{length}
-use native.Mathlib.Omega.{arith}
 use Rattle.ordered.proofs.triples_of.Given as goal
 
 abbrev pub invariant-loop-j : goal.invariant-loop-j

@@ -5,7 +5,6 @@ use native.Mathlib.Omega.{arith}
 use Rattle.token.specs.Format.{digits_of}
 use Rattle.text.proofs.Puts.{onward_all, onward, onward-last}
 use Rattle.sections.specs.Bytes.{count_bytes}
-use borrow.Author.Rules.{rules}
 use Rattle.sections.proofs.put_count.Goals as goal
 
 pub returns : goal.returns

@@ -1,10 +1,6 @@
 -- `sections::put_counts` meets its contract: a turn of the loop puts one more (`Rowing`). Assumes nothing.
-use borrow.Author.Rules.{rules}
-use Prim.Native.Nat.{◌-◌}
 use native.Mathlib.Omega.{arith}
-use lib.ListN.{length}
-use Rattle.sections.specs.Bytes.{count_bytes}
-use Rattle.sections.proofs.Parts.{Rowing, rowing_none, rowing_more, rowing_all}
+use Rattle.sections.proofs.Parts.{rowing_none, rowing_more, rowing_all}
 use Rattle.sections.proofs.put_counts.Goals as goal
 
 pub loop-i-init : goal.loop-i-init

@@ -8,7 +8,6 @@ use lib.Seq.{length-take-le}
 use Rattle.text.proofs.Puts.{onward_all, onward, onward-last}
 use Rattle.sections.specs.Bytes.{counts_bytes, counts_of, after_tag, header_bytes}
 use Rattle.sections.proofs.Parts.{nine, counts_front, kept_few}
-use borrow.Author.Rules.{rules}
 use Rattle.sections.proofs.put_header.Goals as goal
 
 pub overflow_add-n : goal.overflow_add-n

@@ -1,8 +1,6 @@
 -- `sections::put_latches` meets its contract: a turn of the loop puts one line more (`Latching`). Assumes nothing.
-use Prim.Native.Nat.{◌-◌}
 use native.Mathlib.Omega.{arith}
-use Rattle.sections.proofs.Parts.{Latching, latching_none, latching_more, latching_all}
-use borrow.Author.Rules.{rules}
+use Rattle.sections.proofs.Parts.{latching_none, latching_more, latching_all}
 use Rattle.sections.proofs.put_latches.Goals as goal
 
 pub loop-i-init : goal.loop-i-init

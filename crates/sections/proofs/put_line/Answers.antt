@@ -5,7 +5,6 @@ use native.Mathlib.Omega.{arith}
 use Rattle.token.specs.Format.{digits_of}
 use Rattle.text.proofs.Puts.{onward_all, onward, onward-last}
 use Rattle.sections.specs.Bytes.{line_bytes}
-use borrow.Author.Rules.{rules}
 use Rattle.sections.proofs.put_line.Goals as goal
 
 pub returns : goal.returns

@@ -1,10 +1,8 @@
 -- `sections::put_lines` meets its contract: a turn of the loop puts one more (`Rowing`). Assumes nothing.
-use borrow.Author.Rules.{rules}
 use Prim.Native.Nat.{◌-◌}
-use native.Mathlib.Omega.{arith}
 use lib.ListN.{length}
 use Rattle.sections.specs.Bytes.{line_bytes}
-use Rattle.sections.proofs.Parts.{Rowing, rowing_none, rowing_more, rowing_all}
+use Rattle.sections.proofs.Parts.{Rowing}
 use Rattle.sections.proofs.put_lines.Given as goal
 
 abbrev pub invariant-loop-i : goal.invariant-loop-i

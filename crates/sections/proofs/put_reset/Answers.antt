@@ -6,7 +6,6 @@ use Rattle.token.specs.Format.{digits_of}
 use Rattle.place.proofs.Theorems.{further_none}
 use Rattle.text.proofs.Puts.{onward_all, onward, onward-last}
 use Rattle.sections.proofs.Parts.{reset_some, reset_none}
-use borrow.Author.Rules.{rules}
 use Rattle.sections.proofs.put_reset.Goals as goal
 
 pub returns-then-reset-gt0 : goal.returns-then-reset-gt0

@@ -9,7 +9,6 @@ use Rattle.text.proofs.Puts.{onward_all, onward, onward-last}
 use Rattle.lines.specs.Sections.{roots_of}
 use Rattle.sections.specs.Bytes.{lines_bytes, roots_bytes}
 use Rattle.sections.proofs.Parts.{roots_parts}
-use borrow.Author.Rules.{rules}
 use Rattle.sections.proofs.put_roots.Goals as goal
 
 pub slice_bounds-put_lines-end : goal.slice_bounds-put_lines-end

@@ -5,7 +5,6 @@ use lib.ListN.{length}
 use Rattle.sheet_lines.specs.Text.{ordered_text}
 use Rattle.sheet_lines.proofs.Texts.{put_same, put_then}
 use Rattle.sheet_lines.proofs.Answers.{ordered_line_same, gate_lines_same}
-use borrow.Author.Rules.{rules}
 use Rattle.sheet_lines.proofs.print_ordered.Goals as goal
 
 pub returns : goal.returns

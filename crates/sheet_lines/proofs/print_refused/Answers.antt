@@ -3,7 +3,6 @@ use mathlib.Core.Path.{ap, ◌∙◌}
 use Rattle.lit.specs.declared.Lit.{Lit}
 use Rattle.sheet_lines.proofs.Texts.{put_same}
 use Rattle.sheet_lines.proofs.Answers.{refused_same}
-use borrow.Author.Rules.{rules}
 use Rattle.sheet_lines.proofs.print_refused.Goals as goal
 
 pub returns : goal.returns

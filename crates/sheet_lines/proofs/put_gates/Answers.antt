@@ -1,12 +1,7 @@
 -- `sheet_lines::put_gates` meets its contract: a turn of the loop puts the line of one gate more (`Listing`). Assumes nothing.
-use borrow.Author.Rules.{rules}
-use Prim.Native.Nat.{◌-◌}
 use mathlib.Core.Path.{refl}
 use native.Mathlib.Omega.{arith}
-use Rattle.circuit.specs.Ordered.{gates_from}
-use Rattle.circuit.specs.Outcome.{pairs_of}
-use Rattle.sheet_lines.specs.Lines.{gate_line}
-use Rattle.sheet_lines.proofs.Texts.{Listing, listing_none, listing_more, listing_all, listing_keeps, no_gate, made_length, made_line}
+use Rattle.sheet_lines.proofs.Texts.{listing_none, listing_more, listing_all, listing_keeps, no_gate, made_length, made_line}
 use Rattle.sheet_lines.proofs.put_gates.Goals as goal
 
 pub loop-j-init : goal.loop-j-init

@@ -1,12 +1,9 @@
 -- `sheet_lines::put_gates` meets its contract: a turn of the loop puts the line of one gate more (`Listing`). Assumes nothing.
-use borrow.Author.Rules.{rules}
 use Prim.Native.Nat.{◌-◌}
-use mathlib.Core.Path.{refl}
-use native.Mathlib.Omega.{arith}
 use Rattle.circuit.specs.Ordered.{gates_from}
 use Rattle.circuit.specs.Outcome.{pairs_of}
 use Rattle.sheet_lines.specs.Lines.{gate_line}
-use Rattle.sheet_lines.proofs.Texts.{Listing, listing_none, listing_more, listing_all, listing_keeps, no_gate, made_length, made_line}
+use Rattle.sheet_lines.proofs.Texts.{Listing}
 use Rattle.sheet_lines.proofs.put_gates.Given as goal
 
 abbrev pub invariant-loop-j : goal.invariant-loop-j

@@ -2,7 +2,6 @@
 use native.Mathlib.Omega.{arith}
 use Rattle.sheet_lines.specs.Lines.{image_line}
 use Rattle.sheet_lines.proofs.Texts.{put_byte, put_then}
-use borrow.Author.Rules.{rules}
 use Rattle.sheet_lines.proofs.put_image.Goals as goal
 
 pub returns : goal.returns

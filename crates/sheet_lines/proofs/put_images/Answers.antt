@@ -1,11 +1,8 @@
 -- `sheet_lines::put_images` meets its contract: a turn of the loop puts the line of one image more (`Listing`). Assumes nothing.
-use borrow.Author.Rules.{rules}
-use Prim.Native.Nat.{◌-◌}
 use mathlib.Core.Path.{ap}
 use native.Mathlib.Omega.{arith}
-use lib.ListN.{length}
 use Rattle.sheet_lines.specs.Lines.{image_line}
-use Rattle.sheet_lines.proofs.Texts.{Listing, listing_none, listing_more, listing_all, listing_keeps}
+use Rattle.sheet_lines.proofs.Texts.{listing_none, listing_more, listing_all, listing_keeps}
 use Rattle.sheet_lines.proofs.put_images.Goals as goal
 
 pub loop-i-init : goal.loop-i-init

@@ -2,7 +2,6 @@
 use Rattle.token.specs.Format.{digits_of}
 use native.Mathlib.Omega.{arith}
 use Rattle.sheet_lines.proofs.Texts.{put_bytes_lem, put_byte, put_then}
-use borrow.Author.Rules.{rules}
 use Rattle.sheet_lines.proofs.put_number.Goals as goal
 
 pub returns : goal.returns

@@ -2,7 +2,6 @@
 use native.Mathlib.Omega.{arith}
 use Rattle.sheet_lines.specs.Lines.{refused_word, refused_line}
 use Rattle.sheet_lines.proofs.Texts.{put_bytes_lem, put_then}
-use borrow.Author.Rules.{rules}
 use Rattle.sheet_lines.proofs.put_refused.Goals as goal
 
 pub returns : goal.returns

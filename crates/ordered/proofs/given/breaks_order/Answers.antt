@@ -1,5 +1,4 @@
 -- `breaks_order` meets its contract: the first test decides the definition's first half, and what is left is the second. Assumes nothing.
-use borrow.Author.Rules.{rules}
 use Rattle.ordered.proofs.Checks.{breaks_code, breaks_inputs}
 use Rattle.ordered.proofs.given.breaks_order.Goals as goal
 

@@ -1,5 +1,4 @@
 -- `check` meets its contract: the checks stand in their order, and each return is one of the definition's. Assumes nothing.
-use borrow.Author.Rules.{rules}
 use mathlib.Core.Path.{sym, ◌∙◌}
 use native.Mathlib.Omega.{arith}
 use Rattle.ordered.proofs.Exactly.{even_words, as_many_resets}

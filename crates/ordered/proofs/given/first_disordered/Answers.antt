@@ -1,13 +1,8 @@
 -- `first_disordered` meets its contract: all gates before gate j are in order, so the first of what is left is the first of all. Assumes nothing.
-use borrow.Author.Rules.{rules}
-use Prim.Native.Nat.{◌-◌, ◌/◌, ◌≤◌}
-use mathlib.Core.Path.{◌≡◌, sym, ap, ◌∙◌}
+use mathlib.Core.Path.{sym, ap, ◌∙◌}
 use native.Mathlib.Omega.{arith}
-use lib.ListN.{length}
-use Rattle.circuit.specs.Outcome.{pairs_of}
 use Rattle.checks.specs.Checks.{found}
-use Rattle.ordered.specs.Check.{first_disordered}
-use Rattle.ordered.proofs.Checks.{left, disordered_start, disordered_here, disordered_on, disordered_end}
+use Rattle.ordered.proofs.Checks.{disordered_start, disordered_here, disordered_on, disordered_end}
 use Rattle.ordered.proofs.given.first_disordered.Goals as goal
 
 pub loop-j-init : goal.loop-j-init

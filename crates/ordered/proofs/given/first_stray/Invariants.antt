@@ -1,14 +1,10 @@
 -- `first_stray` meets its contract: all resets before reset j are what they may be, so the first of what is left is the first of all. Assumes nothing.
-use borrow.Author.Rules.{rules}
-use borrow.Author.Tests.{not-true, not-false}
 use Prim.Native.Nat.{◌-◌, ◌≤◌}
-use mathlib.Core.Path.{◌≡◌, sym, ap, ◌∙◌}
-use native.Mathlib.Omega.{arith}
+use mathlib.Core.Path.{◌≡◌}
 use lib.ListN.{length}
 use Rattle.circuit.specs.Circuit.{first_stray}
 use Rattle.circuit.specs.Ordered.{count_from}
-use Rattle.checks.specs.Checks.{found}
-use Rattle.ordered.proofs.Checks.{resets_left, stray_start, stray_here, stray_on, stray_end}
+use Rattle.ordered.proofs.Checks.{resets_left}
 use Rattle.ordered.proofs.given.first_stray.Given as goal
 
 abbrev pub invariant-loop-j : goal.invariant-loop-j

@@ -1,5 +1,4 @@
 -- `is_uneven` meets its contract: each test decides one part of the definition's disjunction. Assumes nothing.
-use borrow.Author.Rules.{rules}
 use Rattle.ordered.proofs.Checks.{uneven_counts, uneven_sizes, uneven_latches, uneven_words}
 use Rattle.ordered.proofs.given.is_uneven.Goals as goal
 

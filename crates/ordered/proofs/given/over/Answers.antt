@@ -1,5 +1,4 @@
 -- `over` meets its contract: the first of lists one after another is the first of the first list that has one. Assumes nothing.
-use borrow.Author.Rules.{rules}
 use mathlib.Core.Path.{◌∙◌}
 use Rattle.ordered.proofs.Checks.{in_gates, in_latches_lem, in_roots_lem, in_asked, in_none}
 use Rattle.ordered.proofs.given.over.Goals as goal

@@ -1,5 +1,4 @@
 -- `over_in_gates` meets its contract: it looks at the codes, or knows what it would find. Assumes nothing.
-use borrow.Author.Rules.{rules}
 use Rattle.ordered.proofs.given.over_in_gates.Goals as goal
 
 pub returns-in-Nothing : goal.returns-in-Nothing

@@ -2,11 +2,7 @@
 use native.Mathlib.Omega.{arith}
 use borrow.Author.Rules.{scaled_Fits}
 use Prim.Native.Nat.{zero-le}
-use Prim.Native.Nat.{◌≤◌, ◌-◌}
-use mathlib.Core.Path.{◌≡◌, refl, sym, ap, ◌∙◌}
-use lib.ListN.{length, drop}
-use Rattle.circuit.specs.Circuit.{first_over}
-use Rattle.circuit.specs.Resets.{side_by_side}
+use mathlib.Core.Path.{refl, sym, ap, ◌∙◌}
 use Rattle.checks.specs.Checks.{found}
 use Rattle.checks.proofs.Offenders.{turn-fits, turn_within, turn_nearer}
 use Rattle.ordered.proofs.Checks.{latch_next, latch_reset, latch_on, latch_short, latch_end}

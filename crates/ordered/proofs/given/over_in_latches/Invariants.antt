@@ -1,14 +1,9 @@
 -- `over_in_latches` meets its contract: nothing before latch i is over the bound, so the first of what is left is the first of all. Assumes nothing.
-use borrow.Author.Rules.{scaled_Fits}
-use Prim.Native.Nat.{zero-le}
 use Prim.Native.Nat.{◌≤◌, ◌-◌}
-use mathlib.Core.Path.{◌≡◌, refl, sym, ap, ◌∙◌}
+use mathlib.Core.Path.{◌≡◌}
 use lib.ListN.{length, drop}
 use Rattle.circuit.specs.Circuit.{first_over}
 use Rattle.circuit.specs.Resets.{side_by_side}
-use Rattle.checks.specs.Checks.{found}
-use Rattle.checks.proofs.Offenders.{turn-fits, turn_within, turn_nearer}
-use Rattle.ordered.proofs.Checks.{latch_next, latch_reset, latch_on, latch_short, latch_end}
 use Rattle.ordered.proofs.given.over_in_latches.Given as goal
 
 abbrev pub invariant-loop-i : goal.invariant-loop-i

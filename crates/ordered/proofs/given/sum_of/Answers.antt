@@ -1,10 +1,8 @@
 -- `sum_of` meets its contract: a turn of the loop adds one size, and so few sizes of 32 bits cannot overflow the sum (`Summing`). Assumes nothing.
 use native.Mathlib.Omega.{arith}
-use borrow.Author.Rules.{rules, scaled_Fits}
-use Prim.Native.Nat.{◌-◌}
-use lib.ListN.{length}
+use borrow.Author.Rules.{scaled_Fits}
 use Rattle.checks.proofs.Offenders.{turn-fits, turn_nearer}
-use Rattle.ordered.proofs.Checks.{Summing, summing_none, summing_more, summing_fits, summing_all}
+use Rattle.ordered.proofs.Checks.{summing_none, summing_more, summing_fits, summing_all}
 use Rattle.ordered.proofs.given.sum_of.Goals as goal
 
 pub loop-i-init : goal.loop-i-init

@@ -1,5 +1,4 @@
 -- `told` meets its contract: each return is a row of the definition. Assumes nothing.
-use borrow.Author.Rules.{rules}
 use Rattle.ordered.proofs.given.told.Goals as goal
 
 pub returns-in-Literal : goal.returns-in-Literal
