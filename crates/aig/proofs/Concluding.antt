@@ -15,7 +15,7 @@ use Rattle.circuit.specs.Map.{no_image, entry_image, image_in, code_of}
 use Rattle.circuit.specs.Walk.{Work, Out, reached, stopped}
 use Rattle.circuit.specs.Circuit.{Circuit, walked, numbered}
 use Rattle.circuit.specs.Ordered.{images_in, carried_from, first_latch, ordered_of}
-use Rattle.circuit.specs.Outcome.{Lent, Outcome, lent_of, circuit_of, map_words, scratch_words, zeros, onto, pair_words, summary_of, after, outcome}
+use Rattle.circuit.specs.Outcome.{Lent, lent_of, circuit_of, map_words, scratch_words, zeros, onto, pair_words, summary_of, after, outcome}
 use Rattle.circuit.specs.Claims.{Within, Agrees, Roomy}
 use Rattle.circuit.specs.Tested.{Tested}
 use Rattle.circuit.proofs.Words.{pairs_length}

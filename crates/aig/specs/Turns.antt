@@ -7,7 +7,6 @@ use Rattle.aig.specs.declared.shape.Shape.{Shape}
 use Rattle.aig.specs.declared.walk.State.{State}
 use Rattle.aig.specs.declared.walk.State.TheVariants.{Transfer, First, Second, Return, Reached, Stopped}
 use Rattle.ending.specs.declared.Walked.{Walked}
-use Rattle.ending.specs.declared.Walked.TheVariants as Walked
 use Rattle.aig.specs.Layout.{stack_of}
 use Rattle.aig.specs.Going.{Going, Done, Halted}
 

@@ -1,11 +1,11 @@
 -- Words that gates are laid into, one gate a turn. Assumes nothing.
 use mathlib.Core.Path.{◌≡◌, refl, sym, ap, ap₂, ◌∙◌}
-use mathlib.Core.List.{List, [], ◌∷◌, ◌++◌, append-nil}
+use mathlib.Core.List.{List, [], ◌∷◌, ◌++◌}
 use Prim.Native.Nat.{ℕ, suc, ◌+◌, ◌*◌, ◌≤◌, ◌<◌}
 use native.Mathlib.Omega.{arith}
 use native.Mathlib.Numerals.{add-one}
-use lib.ListN.{length, get_or, take, drop, set, replicate, length-append, length-drop}
-use lib.Seq.{sets, sets-eq, take_at, drop-append-add, drop-drop, take-suc, drop-length, length-take-le}
+use lib.ListN.{length, get_or, take, drop, set, length-append, length-drop}
+use lib.Seq.{sets, sets-eq, take_at, drop-append-add, drop-drop, take-suc, length-take-le}
 use Rattle.aig_records.specs.Records.{no_gate, record_words, flat_of, laid_onto}
 use Rattle.aig_records.specs.declared.GateRecord.{GateRecord}
 

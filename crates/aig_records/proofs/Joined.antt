@@ -31,7 +31,6 @@ use Rattle.checks.specs.declared.Check.TheVariants.{Passed, Failed}
 use Rattle.aig_records.specs.declared.verdict.Checked.{Checked}
 use Rattle.aig_records.specs.declared.verdict.Rooms.{Rooms}
 use Rattle.aig_records.specs.Records.{record_words, flat_of, laid_onto}
-use Rattle.checks.specs.declared.Lengths.{Lengths}
 use Rattle.checks.specs.Checks.{found, fail_if, sizing, lengths_of}
 use Rattle.checks.proofs.Sizes.{sizing_is}
 use Rattle.aig_records.specs.Checks.{lengths_with, or_else, first_in, over_in, over_all, verdict, planned, checked_of}

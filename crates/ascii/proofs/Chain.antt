@@ -1,12 +1,12 @@
 -- The chain: what is lent of a text that was read is the text's circuit, which passes checks 1 to 4 and 22; so renumbering refuses it by 5 to 8, as document 01
 -- does, or keeps its values; and what renumbering leaves is stored as a binary file and read back. Assumes nothing.
-use Prim.Native.Nat.{ℕ, ◌+◌, ◌*◌, ◌≤◌, ◌<◌}
+use Prim.Native.Nat.{ℕ, ◌+◌, ◌*◌, ◌≤◌}
 use mathlib.Core.Path.{◌≡◌, refl, sym, ap, ◌∙◌, subst, subst⁻¹}
 use mathlib.Core.Bool.{Bool, true≢false}
 use mathlib.Core.Logic.{inl, inr}
 use mathlib.Core.List.{List, [], ◌∷◌, ◌++◌}
 use native.Mathlib.Omega.{arith}
-use lib.ListN.{length, get_or, take}
+use lib.ListN.{length, get_or}
 use Rattle.lit.specs.Code.{literal}
 use Rattle.circuit.specs.declared.Refusal.{Refusal}
 use Rattle.circuit.specs.declared.Refusal.TheVariants as R
@@ -16,7 +16,7 @@ use Rattle.circuit.specs.declared.Answer.TheVariants.{Renumbered, Refused}
 use Rattle.circuit.specs.Graph.{In, Gate, Graph}
 use Rattle.circuit.specs.Walk.{stopped}
 use Rattle.circuit.specs.Circuit.{Circuit, graph, codes, renumber}
-use Rattle.circuit.specs.Ordered.{Ordered, ordered_graph}
+use Rattle.circuit.specs.Ordered.{ordered_graph}
 use Rattle.circuit.specs.Outcome as C
 use Rattle.circuit.specs.Outcome.{Lent, circuit_of, gates_of, total, held}
 use Rattle.circuit.specs.Tested.{Fits}
@@ -29,18 +29,16 @@ use Rattle.circuit.proofs.Outcome.{WhyLent, from_within, from_agrees, from_roomy
 use Rattle.lines.specs.Reading.{Read, got, no}
 use Rattle.ordered.specs.Expand.{gate_words}
 use Rattle.ordered.proofs.Laid.{gates_of_words}
-use Rattle.binary.specs.File as B
 use Rattle.binary.specs.Sound.{Sound, Holds, result_with}
 use Rattle.binary.specs.Write.{file_of}
 use Rattle.binary.specs.Archive.{archiving, FitsOrShort, Stored}
 use Rattle.binary.proofs.Across.{result_sound}
 use Rattle.binary.proofs.Archive.{stored}
 use Rattle.ascii_lines.proofs.Loops.{words_length}
-use Rattle.ascii.specs.declared.TextRead.{TextRead}
-use Rattle.ascii.specs.Text.{Text, Room, circuit_in, read_text}
-use Rattle.ascii.specs.Promise.{Lists, room_of, Outcome, left, outcome}
+use Rattle.ascii.specs.Text.{Text, circuit_in, read_text}
+use Rattle.ascii.specs.Promise.{room_of, Outcome, left, outcome}
 use Rattle.ascii.specs.Known.{Known}
-use Rattle.ascii.specs.Chain.{Lending, handed, handed_from, Enough, text_graph, KeepsText, Returns, Chain, refused, unordered, archived}
+use Rattle.ascii.specs.Chain.{Lending, handed, Enough, text_graph, KeepsText, Returns, Chain, refused, unordered, archived}
 use Rattle.ascii.proofs.Known.{read_known, known_passes}
 
 -- where all are within a bound, none is the first over it

@@ -1,6 +1,6 @@
 -- What is written of an ordered circuit spells it as a text, section by section. Assumes nothing.
 use Prim.Native.Nat.{ℕ, zero, suc, ◌+◌, ◌*◌, ◌%◌, ◌^◌, ◌≤◌, ◌<◌}
-use mathlib.Core.Path.{◌≡◌, refl, sym, ap, ◌∙◌, subst}
+use mathlib.Core.Path.{◌≡◌, refl, sym, ap}
 use mathlib.Core.Bool.{Bool}
 use mathlib.Core.Logic.{inl, inr}
 use mathlib.Core.Option.{none}
@@ -10,14 +10,13 @@ use lib.ListN.{length, get_or}
 use Rattle.token.specs.Format.{digits_of}
 use Rattle.circuit.specs.Graph.{In, Gate}
 use Rattle.circuit.specs.Walk.{Pair, first_code}
-use Rattle.circuit.specs.Circuit.{Circuit, first_stray}
+use Rattle.circuit.specs.Circuit.{first_stray}
 use Rattle.circuit.specs.Ordered.{Ordered, first_latch, count_from, gates_from, sources_of, given, no_pair}
 use Rattle.circuit.specs.Claims.{AllWithin}
 use Rattle.circuit.proofs.Checks.{is_reset_lem}
 use Rattle.circuit.proofs.Ordered.{count_from-length}
 use Rattle.circuit.proofs.Resets.{stray_exactly}
 use Rattle.lines.specs.declared.Header.{Header}
-use Rattle.lines.specs.Reading.{got}
 use Rattle.lines.specs.Lines.{latch_line}
 use Rattle.lines.specs.Sections.{Roots, roots_of, top_code}
 use Rattle.lines.specs.Spelling.{Row, Rooting}
@@ -26,7 +25,7 @@ use Rattle.sections.proofs.Spelled.{in_a_row, at_last, row_spelled, passes, latc
 use Rattle.sections.proofs.Theorems.{header_spelled, roots_spelled}
 use Rattle.ordered.specs.WellOrdered.{latches_of}
 use Rattle.ordered.proofs.Exactly.{resets_within}
-use Rattle.binary.specs.File.{File, counts_of}
+use Rattle.binary.specs.File.{File}
 use Rattle.binary.specs.Write.{header_for}
 use Rattle.binary.specs.Sound.{Sound}
 use Rattle.binary.proofs.Written.{its_counts, its_roots, its_header}

@@ -1,5 +1,5 @@
 -- What reading gives of the text that is written of an ordered circuit: the circuit as `given` has it, list by list. Assumes nothing.
-use Rattle.std.specs.Prelude.{ℕ, ◌*◌, ◌≤◌, length}
+use Rattle.std.specs.Prelude.{◌*◌, ◌≤◌, length}
 use Rattle.circuit.specs.Walk.{first_code}
 use Rattle.circuit.specs.Ordered.{first_latch, count_from, gates_from, sources_of}
 use Rattle.ordered.specs.WellOrdered.{variables_of}

@@ -1,6 +1,5 @@
 -- How long a file is at most: a line has 21 bytes or fewer, a latch's 42, a gate sixteen, so that every place in it is one of 64 bits. Assumes nothing.
 use Prim.Native.Nat.{ℕ, zero, suc, ◌+◌, ◌-◌, ◌*◌, ◌/◌, ◌%◌, ◌≤◌}
-use mathlib.Core.Path.{◌≡◌, refl}
 use mathlib.Core.Bool.{Bool, true, false, cond}
 use mathlib.Core.List.{List, [], ◌∷◌, ◌++◌}
 use native.Mathlib.Omega.{arith}
@@ -13,10 +12,10 @@ use Rattle.circuit.specs.Walk.{Pair, first_code}
 use Rattle.circuit.specs.Outcome.{limit}
 use Rattle.lines.specs.declared.Header.{Header}
 use Rattle.lines.specs.Sections.{roots_of}
-use Rattle.sections.specs.Bytes.{row_bytes, line_bytes, lines_bytes, count_bytes, counts_bytes, counts_of, up_to_last, optional, after_tag, header_bytes, roots_bytes, latch_bytes, latches_bytes}
+use Rattle.sections.specs.Bytes.{row_bytes, line_bytes, lines_bytes, count_bytes, counts_bytes, counts_of, after_tag, header_bytes, roots_bytes, latch_bytes, latches_bytes}
 use Rattle.sections.proofs.Parts.{kept_few, latch_most}
 use Rattle.binary.specs.File.{tag}
-use Rattle.binary.specs.Write.{gate_bytes, gates_bytes, parts_of}
+use Rattle.binary.specs.Write.{gates_bytes, parts_of}
 
 digits_few : (k v : ℕ) → length (digits_up_to k v) ≤ suc k
 digits_few zero v = omega arith

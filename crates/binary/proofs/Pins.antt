@@ -9,7 +9,7 @@ use native.Mathlib.Omega.{arith}
 use lib.ListN.{replicate}
 use Rattle.token.specs.Format.{digits_of}
 use Rattle.token.specs.Answer.{digits_at, uint_at, go_on_at, binary_at, delta_at, header_field_at, pair_at}
-use Rattle.token.specs.declared.Reason.TheVariants.{NoDigit, LeadingZero, OverLimit, Cut, TooLong, OverReference, ZeroDelta}
+use Rattle.token.specs.declared.Reason.TheVariants.{LeadingZero, OverLimit, Cut, TooLong, OverReference, ZeroDelta}
 use Rattle.token.specs.declared.PairToken.TheVariants.{Inputs, PairRefused}
 use Rattle.lit.specs.Code.{variable}
 use Rattle.circuit.specs.Walk.{Pair, first_code}

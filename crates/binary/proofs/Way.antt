@@ -4,7 +4,7 @@ use Prim.Native.Nat.{ℕ, ◌*◌}
 use mathlib.Core.Path.{◌≡◌, refl, sym, ap, subst⁻¹, subst}
 use mathlib.Core.List.{List}
 use native.Mathlib.Omega.{arith}
-use lib.ListN.{length, take}
+use lib.ListN.{length}
 use Rattle.circuit.specs.Outcome as C
 use Rattle.circuit.specs.Outcome.{Lent, circuit_of, total, pair_words}
 use Rattle.circuit.specs.Claims.{Roomy}
@@ -15,9 +15,9 @@ use Rattle.ordered.specs.Expand as E
 use Rattle.ordered.proofs.Laid.{words_length}
 use Rattle.ordered.proofs.Theorems as ordered
 use Rattle.binary.specs.File.{File, read_file}
-use Rattle.binary.specs.Promise.{Lists, room_of, Outcome, left, outcome}
+use Rattle.binary.specs.Promise.{room_of, Outcome, left, outcome}
 use Rattle.binary.specs.Known.{Known}
-use Rattle.binary.specs.Way.{Lending, expanded, handed, handed_from, Enough, Arrives, End, refused, ordered}
+use Rattle.binary.specs.Way.{Lending, expanded, handed, Enough, Arrives, End, refused, ordered}
 use Rattle.binary.proofs.Known.{read_known}
 
 -- of a file that was read

@@ -7,7 +7,6 @@ use Rattle.circuit.specs.Outcome.{onto}
 use Rattle.lines.specs.declared.Header.{Header}
 use Rattle.lines.specs.Sections.{roots_of}
 use Rattle.sections.specs.Bytes.{latches_bytes, header_bytes, roots_bytes}
-use Rattle.ordered.specs.declared.given.Fault.{Fault}
 use Rattle.ordered.specs.declared.given.Fault.TheVariants.{Short}
 use Rattle.ordered.specs.declared.given.Checked.{Checked}
 use Rattle.ordered.specs.declared.given.Checked.TheVariants.{Fits, Faulty}

@@ -22,7 +22,7 @@ use Rattle.circuit.specs.Ordered.{first_latch}
 use Rattle.lines.specs.declared.Fault.{Fault}
 use Rattle.lines.specs.declared.Fault.TheVariants.{Number, Above, Short}
 use Rattle.lines.specs.declared.Header.{Header}
-use Rattle.lines.specs.Reading.{Read, got, no, ◌▸◌}
+use Rattle.lines.specs.Reading.{got, no, ◌▸◌}
 use Rattle.lines.specs.Lines.{latch_at, latches_at}
 use Rattle.lines.specs.Sections.{header_at, top_code, roots_at}
 use Rattle.binary.specs.File.{tag, Room, gate_of, gate_at, gates_at, file_with, sized_at, lists_at, body_at, read_file}

@@ -12,7 +12,7 @@ use Rattle.token.proofs.Refusals.{lit_place}
 use Rattle.lines.specs.declared.Fault.{Fault}
 use Rattle.lines.specs.declared.Fault.TheVariants.{Number, Short}
 use Rattle.lines.specs.declared.Header.{Header}
-use Rattle.lines.specs.Reading.{Read, got, no, ◌▸◌}
+use Rattle.lines.specs.Reading.{got, no, ◌▸◌}
 use Rattle.lines.specs.Lines.{space_at, newline_at, latch_at}
 use Rattle.lines.specs.Sections.{count_at, header_at, top_code, roots_at}
 use Rattle.lines.proofs.Answers.{number_held}

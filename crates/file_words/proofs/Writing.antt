@@ -13,7 +13,6 @@ use Rattle.circuit.specs.Outcome.{onto}
 use Rattle.circuit.proofs.Tests.{Same, same, same_test}
 use Rattle.ordered.specs.declared.given.Fault.{Fault}
 use Rattle.ordered.specs.declared.given.Fault.TheVariants.{Misshapen}
-use Rattle.ordered.specs.declared.given.Shape.{Shape}
 use Rattle.ordered.specs.Check.{Words, fault_number, fault_literal}
 use Rattle.binary.specs.declared.FileWritten.{FileWritten}
 use Rattle.binary.specs.declared.FileWritten.TheVariants.{Written, Unwritten}

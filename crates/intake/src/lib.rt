@@ -86,7 +86,7 @@ fn numbered(
       gates_out = gates_out.new;
       scratch = scratch.new;
     }) ≡ outcome (handed read flags (record {
-      nexts = nexts.old;
+      nexts = nexts.now;
       resets = resets.now;
       roots = roots.now;
     }) (record {
@@ -156,7 +156,7 @@ fn renumbered(
       gates_out = gates_out.new;
       scratch = scratch.new;
     }) ≡ renumbering read flags gates.now (record {
-      nexts = nexts.old;
+      nexts = nexts.now;
       resets = resets.now;
       roots = roots.now;
     }) (record {
@@ -268,7 +268,7 @@ fn onward(
         × (read.sets ≤ length sizes.now) }
     ensures { seen result (record {
       file = record {
-        nexts = nexts.old;
+        nexts = nexts.now;
         resets = resets.now;
         gates = gates.now;
         sizes = sizes.now;
@@ -290,7 +290,7 @@ fn onward(
       bytes = out.new;
     }) ≡ onwards used read flags (record {
       file = record {
-        nexts = nexts.old;
+        nexts = nexts.now;
         resets = resets.now;
         gates = gates.now;
         sizes = sizes.now;

@@ -1,6 +1,5 @@
 -- `finish` meets its contract: after a refusal nothing is done; else the flat entry answers for the front of the list, and that front is cleared.
 -- Assumes nothing.
-use borrow.Author.Rules.{rules}
 use Prim.Native.Nat.{◌*◌}
 use mathlib.Core.Path.{sym, ap}
 use native.Mathlib.Omega.{arith}

@@ -1,5 +1,4 @@
 -- `ascii::body` meets its contract: where the lists are long enough, what stands from the first input line on. Assumes nothing.
-use borrow.Author.Rules.{rules}
 use Rattle.ascii.specs.Promise.{lists_of}
 use Rattle.ascii.proofs.Whole.{body_roomy, body_is, body_not}
 use Rattle.ascii.proofs.body.Goals as goal

@@ -10,7 +10,6 @@ use Rattle.binary.specs.declared.FileWritten.TheVariants.{Unwritten}
 use Rattle.binary.specs.Write.{wrote}
 use Rattle.binary.proofs.Fitting.{few, ready, its_header, its_top, countable, measured, none_put, too_short, whole}
 use Rattle.ascii.proofs.WriteFitting.{text_roomy, text_ends, text_parts}
-use borrow.Author.Rules.{rules}
 use Rattle.ascii.proofs.fitted.Goals as goal
 
 pub header_for-h-requires : goal.header_for-h-requires

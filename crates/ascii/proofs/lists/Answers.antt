@@ -1,5 +1,4 @@
 -- `ascii::lists` meets its contract: the sections in the order of the text, each into its lists. Assumes nothing.
-use borrow.Author.Rules.{rules}
 use Rattle.ascii.proofs.Files.{lists_inputs, lists_latches, lists_roots, lists_gates, lists_is}
 use Rattle.ascii.proofs.lists.Goals as goal
 

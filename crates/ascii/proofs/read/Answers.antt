@@ -1,5 +1,4 @@
 -- `ascii::read` meets its contract: header and body, or a refusal that clears the lists. Assumes nothing.
-use borrow.Author.Rules.{rules}
 use mathlib.Core.Path.{sym, ◌∙◌}
 use Rattle.ascii.specs.Promise.{lists_of}
 use Rattle.ascii.proofs.Whole.{read_within, read_no_header, read-refused, read_is}

@@ -1,5 +1,4 @@
 -- `ascii::refused` meets its contract: each list is filled with zeros. Assumes nothing.
-use borrow.Author.Rules.{rules}
 use mathlib.Core.Path.{ap}
 use Rattle.lines.specs.Reading.{no}
 use Rattle.ascii.specs.Promise.{answered, seen}

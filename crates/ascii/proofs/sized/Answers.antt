@@ -1,5 +1,4 @@
 -- `ascii::sized` meets its contract: the first list that is too short refuses, and where none is the place stays. Assumes nothing.
-use borrow.Author.Rules.{rules}
 use native.Mathlib.Omega.{arith}
 use Rattle.ascii.proofs.Whole.{sized_inputs, sized_states, sized_nexts, sized_resets, sized_gates, sized_sizes, sized_is}
 use Rattle.ascii.proofs.sized.Goals as goal

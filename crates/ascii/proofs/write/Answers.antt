@@ -7,7 +7,6 @@ use Rattle.ordered.specs.Check.{Words, checked}
 use Rattle.ordered.proofs.Theorems.{fits_exactly}
 use Rattle.binary.specs.Write.{file_in, written_as}
 use Rattle.ascii.specs.Write.{text_of, writing}
-use borrow.Author.Rules.{rules}
 use Rattle.ascii.proofs.write.Goals as goal
 
 pub fitted-requires : goal.fitted-requires

@@ -1,7 +1,6 @@
 -- `binary::body` meets its contract: where the lists are long enough, what stands from the first latch line on. Assumes nothing.
 use Rattle.binary.specs.Promise.{lists_of}
 use Rattle.binary.proofs.Whole.{body_roomy, body_is, body_not}
-use borrow.Author.Rules.{rules}
 use Rattle.binary.proofs.body.Goals as goal
 
 pub lists-requires : goal.lists-requires

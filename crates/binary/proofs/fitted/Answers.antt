@@ -9,7 +9,6 @@ use Rattle.ordered.specs.declared.given.Fault.TheVariants.{Short}
 use Rattle.binary.specs.declared.FileWritten.TheVariants.{Unwritten}
 use Rattle.binary.specs.Write.{wrote}
 use Rattle.binary.proofs.Fitting.{few, ready, its_header, its_top, countable, roomy, its_parts, file_ends, measured, none_put, too_short, whole}
-use borrow.Author.Rules.{rules}
 use Rattle.binary.proofs.fitted.Goals as goal
 
 pub header_for-h-requires : goal.header_for-h-requires

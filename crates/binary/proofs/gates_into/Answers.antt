@@ -1,8 +1,7 @@
 -- `binary::gates_into` meets its contract: a turn of the loop stores one gate more (`Gating`); a pair is at most its code, which fits a word. Assumes nothing.
-use Prim.Native.Nat.{◌+◌, ◌*◌, ◌-◌}
-use Rattle.binary.proofs.Gates.{Gating, gating_none, gating_more, gating_broken, gating_all, gating_keeps}
+use Prim.Native.Nat.{◌+◌, ◌*◌}
+use Rattle.binary.proofs.Gates.{gating_none, gating_more, gating_broken, gating_all, gating_keeps}
 use Rattle.token.proofs.Theorems.{pair_falls, pair_uses}
-use borrow.Author.Rules.{rules}
 use mathlib.Core.Path.{refl, sym, ◌∙◌}
 use native.Mathlib.Omega.{arith}
 use lib.ListN.{length-set}

@@ -1,7 +1,6 @@
 -- `binary::lists` meets its contract: the sections in the order of the file, each into its list. Assumes nothing.
 use native.Mathlib.Omega.{arith}
 use Rattle.binary.proofs.Files.{first-is, latches_told_lem, gates_told_lem, lists_latches, lists_roots, lists_gates, lists_is}
-use borrow.Author.Rules.{rules}
 use Rattle.binary.proofs.lists.Goals as goal
 
 pub gates_into-gated-requires : goal.gates_into-gated-requires

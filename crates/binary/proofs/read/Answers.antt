@@ -2,7 +2,6 @@
 use mathlib.Core.Path.{sym, ◌∙◌}
 use Rattle.binary.specs.Promise.{lists_of}
 use Rattle.binary.proofs.Whole.{read_within, read_no_header, read-refused, read_is}
-use borrow.Author.Rules.{rules}
 use Rattle.binary.proofs.read.Goals as goal
 
 pub body-rest-requires : goal.body-rest-requires

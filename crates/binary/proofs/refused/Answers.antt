@@ -2,7 +2,6 @@
 use Rattle.lines.specs.Reading.{no}
 use Rattle.binary.specs.Promise.{answered, seen}
 use Rattle.binary.proofs.Five.{five}
-use borrow.Author.Rules.{rules}
 use mathlib.Core.Path.{ap}
 use Rattle.binary.proofs.refused.Goals as goal
 

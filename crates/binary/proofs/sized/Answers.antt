@@ -1,7 +1,6 @@
 -- `binary::sized` meets its contract: its tests are those of the definition. Assumes nothing.
 use native.Mathlib.Omega.{arith}
 use Rattle.binary.proofs.Gates.{sized_above, sized_nexts, sized_resets, sized_gates, sized_sizes, sized_is}
-use borrow.Author.Rules.{rules}
 use Rattle.binary.proofs.sized.Goals as goal
 
 pub returns-then-wide : goal.returns-then-wide

@@ -1,14 +1,11 @@
 -- `binary::write` meets its contract: what fits is an ordered circuit and is written, and any other answer of the checks is handed on. Assumes nothing.
-use Prim.Native.Nat.{ℕ}
 use mathlib.Core.Path.{◌≡◌, sym, ap, ◌∙◌}
-use lib.ListN.{length}
 use Rattle.lit.specs.declared.Lit.{Lit}
 use Rattle.ordered.specs.declared.given.Checked.{Checked}
-use Rattle.ordered.specs.declared.given.Checked.TheVariants.{Fits, Faulty}
+use Rattle.ordered.specs.declared.given.Checked.TheVariants.{Fits}
 use Rattle.ordered.specs.Check.{Words, checked}
 use Rattle.ordered.proofs.Theorems.{fits_exactly}
 use Rattle.binary.specs.Write.{file_of, file_in, written_as, writing}
-use borrow.Author.Rules.{rules}
 use Rattle.binary.proofs.write.Goals as goal
 
 pub fitted-requires : goal.fitted-requires

@@ -3,7 +3,6 @@ use mathlib.Core.Path.{sym, ◌∙◌}
 use borrow.Author.Tests.{ltb-false}
 use Rattle.binary.specs.Promise.{lists_of, seen}
 use Rattle.file_words.proofs.Words.{way_short, way_read}
-use borrow.Author.Rules.{rules}
 use Rattle.file_words.proofs.read.Goals as goal
 
 pub returns-then-is_short : goal.returns-then-is_short

@@ -5,7 +5,6 @@ use Rattle.ordered.specs.Check.{Words}
 use Rattle.binary.specs.Write.{wrote}
 use Rattle.ascii.specs.Write.{writing}
 use Rattle.file_words.proofs.Writing.{given, taken, taken_room, way_first, way_written}
-use borrow.Author.Rules.{rules}
 use Rattle.file_words.proofs.write_text.Goals as goal
 
 pub returns-then-first-ne0 : goal.returns-then-first-ne0

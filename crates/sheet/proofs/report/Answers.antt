@@ -5,7 +5,6 @@ use Prim.Native.Nat.{ℕ}
 use lib.ListN.{replicate}
 use Rattle.sheet_read.proofs.Sheets.{sheet_got}
 use Rattle.sheet.proofs.Reports.{report_put, whole_text, faulty_text}
-use borrow.Author.Rules.{rules}
 use Rattle.sheet.proofs.report.Goals as goal
 
 pub slice_bounds-report_codes-end : goal.slice_bounds-report_codes-end

@@ -1,8 +1,6 @@
 -- `order::each`: each turn walks the literal at its place, and those after it wait. Assumes nothing.
 use native.Mathlib.Omega.{arith}
-use Prim.Native.Nat.{◌-◌}
-use lib.ListN.{length}
-use Rattle.aig.proofs.InTurn.{Listing, listing_start, listing_one, listing_on, listing_stop, listing_end, listing_map, listing_out, listing_scratch}
+use Rattle.aig.proofs.InTurn.{listing_start, listing_one, listing_on, listing_stop, listing_end, listing_map, listing_out, listing_scratch}
 use Rattle.aig.proofs.order.each.Goals as goal
 
 pub loop-i-init : goal.loop-i-init

@@ -1,8 +1,7 @@
 -- `order::each`: each turn walks the literal at its place, and those after it wait. Assumes nothing.
-use native.Mathlib.Omega.{arith}
 use Prim.Native.Nat.{◌-◌}
 use lib.ListN.{length}
-use Rattle.aig.proofs.InTurn.{Listing, listing_start, listing_one, listing_on, listing_stop, listing_end, listing_map, listing_out, listing_scratch}
+use Rattle.aig.proofs.InTurn.{Listing}
 use Rattle.aig.proofs.order.each.Given as goal
 
 abbrev pub invariant-loop-i : goal.invariant-loop-i

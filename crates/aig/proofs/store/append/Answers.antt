@@ -1,5 +1,4 @@
 -- `store::append`: two stores. Assumes nothing.
-use borrow.Author.Rules.{rules}
 use lib.ListN.{length-set}
 use Rattle.aig.proofs.Accessors.{gate_by}
 use Rattle.aig.proofs.store.append.Goals as goal

@@ -1,7 +1,6 @@
 -- `store::is_at`: the smaller code first. Assumes nothing.
 use mathlib.Core.Path.{refl}
 use Rattle.aig.proofs.Accessors.{same_smaller, other_smaller}
-use borrow.Author.Rules.{rules}
 use Rattle.aig.proofs.store.is_at.Goals as goal
 
 pub returns-then-out-k : goal.returns-then-out-k

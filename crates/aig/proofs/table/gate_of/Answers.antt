@@ -1,5 +1,4 @@
 -- `table::gate_of`: a word below 2 names no gate, any other the gate that many less 2. Assumes nothing.
-use borrow.Author.Rules.{rules}
 use Rattle.aig.proofs.Accessors.{no_gate_lem, a_gate_lem}
 use Rattle.aig.proofs.table.gate_of.Goals as goal
 

@@ -1,12 +1,9 @@
 -- `trie::find`: a search follows at most 22 links, and a gate that all 22 bits lead to has the pair. Assumes nothing.
-use Prim.Native.Nat.{ℕ, ◌+◌, ◌-◌, ◌*◌, ◌%◌, ◌≤◌}
+use Prim.Native.Nat.{ℕ, ◌+◌, ◌*◌, ◌%◌}
 use mathlib.Core.Path.{◌≡◌, ap, ap₂}
-use mathlib.Core.List.{List}
 use native.Mathlib.Omega.{arith}
-use Rattle.circuit.specs.Walk.{Pair}
 use Rattle.aig.specs.Trie.{key_bits}
-use Rattle.aig.specs.Store.{MadeIn}
-use Rattle.aig.proofs.Finding.{Seeking, seek_start, seek_reads, seek_free, seek_low, seek_inside, seek_last, seek_hit, seek_on}
+use Rattle.aig.proofs.Finding.{seek_start, seek_reads, seek_free, seek_low, seek_inside, seek_last, seek_hit, seek_on}
 use Rattle.aig.proofs.trie.find.Goals as goal
 
 pub overflow_add-place : goal.overflow_add-place

@@ -1,6 +1,5 @@
 -- `trie::link`: one store. Assumes nothing.
 use Rattle.aig.proofs.Accessors.{linked_by}
-use borrow.Author.Rules.{rules}
 use Rattle.aig.proofs.trie.link.Goals as goal
 
 pub returns : goal.returns

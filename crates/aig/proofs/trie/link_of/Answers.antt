@@ -1,5 +1,4 @@
 -- `trie::link_of`: the bit decides. Assumes nothing.
-use borrow.Author.Rules.{rules}
 use Rattle.aig.proofs.Accessors.{left_link, right_link}
 use Rattle.aig.proofs.trie.link_of.Goals as goal
 

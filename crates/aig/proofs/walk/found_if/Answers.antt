@@ -1,6 +1,5 @@
 -- `found_if`: the flag decides. Assumes nothing.
 use Rattle.aig.proofs.Settling.{says_made, says_unlinked}
-use borrow.Author.Rules.{rules}
 use Rattle.aig.proofs.walk.found_if.Goals as goal
 
 pub returns-then-shape : goal.returns-then-shape

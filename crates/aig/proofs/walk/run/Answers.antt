@@ -1,6 +1,5 @@
 -- `run`: each turn is a step that keeps what the start came to, with less to go; the end is what it came to. Assumes nothing.
-use Rattle.aig.proofs.Looping.{Loops, loops_start, loops_as, loops_again, loops_less, loops_reached, loops_stopped, map_kept_lem, out_kept, scratch_kept_lem}
-use Rattle.aig.specs.Turns.{to_go}
+use Rattle.aig.proofs.Looping.{loops_start, loops_as, loops_again, loops_less, loops_reached, loops_stopped, map_kept_lem, out_kept, scratch_kept_lem}
 use Rattle.aig.proofs.walk.run.Goals as goal
 
 pub loop-state-init : goal.loop-state-init

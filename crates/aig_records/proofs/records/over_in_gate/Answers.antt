@@ -1,5 +1,4 @@
 -- `records::over_in_gate` meets its contract: the tests stand in the order of the codes. Assumes nothing.
-use borrow.Author.Rules.{rules}
 use Rattle.aig_records.proofs.Overs.{at_output, at_first, at_second, at_none}
 use Rattle.aig_records.proofs.records.over_in_gate.Goals as goal
 

@@ -1,5 +1,4 @@
 -- `checks::is_over` meets its contract: a code is over 2V + 1 exactly where its half is over V. Assumes nothing.
-use borrow.Author.Rules.{rules}
 use mathlib.Core.Path.{ap, ◌∙◌}
 use Rattle.lit.specs.declared.Var.{Var}
 use Rattle.aig_records.proofs.Overs.{over_half}

@@ -1,5 +1,4 @@
 -- `judge` meets its contract: the checks stand in their order, and each return is one of the definition's. Assumes nothing.
-use borrow.Author.Rules.{rules}
 use mathlib.Core.Path.{◌∙◌}
 use Rattle.aig_records.proofs.Judging.{judges_sized, judges_short, judges_over, judges_reset}
 use Rattle.aig_records.proofs.verdict.judge.Goals as goal

@@ -1,5 +1,4 @@
 -- `verdict::over_all` meets its contract: what its calls answer, put together. Assumes nothing.
-use borrow.Author.Rules.{rules}
 use Prim.Native.Nat.{ℕ}
 use mathlib.Core.Path.{ap₂, ap, ◌∙◌}
 use Rattle.circuit.specs.Circuit.{latch_codes}

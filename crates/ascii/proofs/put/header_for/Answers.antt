@@ -1,5 +1,4 @@
 -- `ascii::put::header_for` meets its contract: what passed its checks is within the limit, so the sums fit a word. Assumes nothing.
-use borrow.Author.Rules.{rules}
 use Rattle.ascii.proofs.put.header_for.Goals as goal
 
 pub returns : goal.returns

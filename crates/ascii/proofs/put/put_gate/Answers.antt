@@ -6,7 +6,6 @@ use Rattle.token.specs.Format.{digits_of}
 use Rattle.text.proofs.Puts.{onward_all, onward, onward-last}
 use Rattle.sections.specs.Bytes.{count_bytes}
 use Rattle.ascii.specs.Write.{gate_line}
-use borrow.Author.Rules.{rules}
 use Rattle.ascii.proofs.put.put_gate.Goals as goal
 
 pub returns : goal.returns

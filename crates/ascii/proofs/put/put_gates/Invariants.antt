@@ -1,9 +1,6 @@
 -- `ascii::put::put_gates` meets its contract: a turn of the loop puts one gate line more (`Gating`). Assumes nothing.
 use Prim.Native.Nat.{◌-◌}
-use native.Mathlib.Omega.{arith}
-use Rattle.circuit.specs.Walk.{first_code}
-use Rattle.ascii.proofs.WriteParts.{Gating, gating_none, gating_more, gating_all}
-use borrow.Author.Rules.{rules}
+use Rattle.ascii.proofs.WriteParts.{Gating}
 use Rattle.ascii.proofs.put.put_gates.Given as goal
 
 abbrev pub invariant-loop-j : goal.invariant-loop-j

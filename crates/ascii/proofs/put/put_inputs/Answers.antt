@@ -1,11 +1,7 @@
 -- `ascii::put::put_inputs` meets its contract: a turn of the loop puts one input line more. Assumes nothing.
-use Prim.Native.Nat.{◌-◌}
 use native.Mathlib.Omega.{arith}
-use Rattle.circuit.specs.Ordered.{count_from}
-use Rattle.sections.specs.Bytes.{line_bytes}
-use Rattle.sections.proofs.Parts.{Rowing, rowing_none}
+use Rattle.sections.proofs.Parts.{rowing_none}
 use Rattle.ascii.proofs.WriteParts.{inputs_more, inputs_all}
-use borrow.Author.Rules.{rules}
 use Rattle.ascii.proofs.put.put_inputs.Goals as goal
 
 pub loop-i-init : goal.loop-i-init

@@ -1,11 +1,8 @@
 -- `ascii::put::put_inputs` meets its contract: a turn of the loop puts one input line more. Assumes nothing.
 use Prim.Native.Nat.{◌-◌}
-use native.Mathlib.Omega.{arith}
 use Rattle.circuit.specs.Ordered.{count_from}
 use Rattle.sections.specs.Bytes.{line_bytes}
-use Rattle.sections.proofs.Parts.{Rowing, rowing_none}
-use Rattle.ascii.proofs.WriteParts.{inputs_more, inputs_all}
-use borrow.Author.Rules.{rules}
+use Rattle.sections.proofs.Parts.{Rowing}
 use Rattle.ascii.proofs.put.put_inputs.Given as goal
 
 abbrev pub invariant-loop-i : goal.invariant-loop-i

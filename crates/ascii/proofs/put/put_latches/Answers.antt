@@ -1,8 +1,6 @@
 -- `ascii::put::put_latches` meets its contract: a turn of the loop puts one latch line more (`Stating`). Assumes nothing.
-use Prim.Native.Nat.{◌-◌}
 use native.Mathlib.Omega.{arith}
-use Rattle.ascii.proofs.WriteParts.{Stating, stating_none, stating_more, stating_all}
-use borrow.Author.Rules.{rules}
+use Rattle.ascii.proofs.WriteParts.{stating_none, stating_more, stating_all}
 use Rattle.ascii.proofs.put.put_latches.Goals as goal
 
 pub loop-i-init : goal.loop-i-init

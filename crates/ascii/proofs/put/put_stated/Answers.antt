@@ -6,7 +6,6 @@ use Rattle.token.specs.Format.{digits_of}
 use Rattle.text.proofs.Puts.{onward_all, onward, onward-last}
 use Rattle.sections.specs.Bytes.{latch_bytes}
 use Rattle.ascii.specs.Write.{stated_bytes}
-use borrow.Author.Rules.{rules}
 use Rattle.ascii.proofs.put.put_stated.Goals as goal
 
 pub returns : goal.returns

@@ -12,7 +12,6 @@ use Rattle.lines.specs.Sections.{roots_of}
 use Rattle.sections.specs.Bytes.{header_bytes, roots_bytes}
 use Rattle.ascii.specs.Tag.{tag}
 use Rattle.ascii.specs.Write.{input_lines, stated_lines, gate_lines, parts_of}
-use borrow.Author.Rules.{rules}
 use Rattle.ascii.proofs.put.put_text.Goals as goal
 
 pub returns : goal.returns

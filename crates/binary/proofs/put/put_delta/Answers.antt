@@ -1,5 +1,4 @@
 -- `binary::put::put_delta` meets its contract: its bytes one by one are those of the shortest groups. Assumes nothing.
-use borrow.Author.Rules.{rules}
 use native.Mathlib.Omega.{arith}
 use lib.ListN.{length-set}
 use Rattle.binary.proofs.Putting.{delta_1, delta_2, delta_3}

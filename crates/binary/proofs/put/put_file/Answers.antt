@@ -12,7 +12,6 @@ use Rattle.lines.specs.Sections.{roots_of}
 use Rattle.sections.specs.Bytes.{latches_bytes, header_bytes, roots_bytes}
 use Rattle.binary.specs.File.{tag}
 use Rattle.binary.specs.Write.{gates_bytes, parts_of}
-use borrow.Author.Rules.{rules}
 use Rattle.binary.proofs.put.put_file.Goals as goal
 
 pub put_gates-requires : goal.put_gates-requires

@@ -1,5 +1,4 @@
 -- `binary::put::put_gate` meets its contract: its two deltas stand one after the other, whether or not both fit. Assumes nothing.
-use borrow.Author.Rules.{rules}
 use native.Mathlib.Omega.{arith}
 use Rattle.binary.proofs.Most.{delta_few}
 use Rattle.binary.proofs.Putting.{gate_within, gate_past}

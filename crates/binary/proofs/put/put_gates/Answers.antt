@@ -1,11 +1,9 @@
 -- `binary::put::put_gates` meets its contract: a turn of the loop puts one gate more (`Putting`); inputs stand in order, so no difference goes below zero.
 -- Assumes nothing.
-use borrow.Author.Rules.{rules}
-use Prim.Native.Nat.{◌-◌}
 use mathlib.Core.Path.{refl}
 use native.Mathlib.Omega.{arith}
 use Rattle.circuit.specs.Walk.{first_code}
-use Rattle.binary.proofs.Putting.{Putting, putting_none, falls, putting_more, putting_all}
+use Rattle.binary.proofs.Putting.{putting_none, falls, putting_more, putting_all}
 use Rattle.binary.proofs.put.put_gates.Goals as goal
 
 pub loop-j-init : goal.loop-j-init

@@ -1,11 +1,7 @@
 -- `binary::put::put_gates` meets its contract: a turn of the loop puts one gate more (`Putting`); inputs stand in order, so no difference goes below zero.
 -- Assumes nothing.
-use borrow.Author.Rules.{rules}
 use Prim.Native.Nat.{◌-◌}
-use mathlib.Core.Path.{refl}
-use native.Mathlib.Omega.{arith}
-use Rattle.circuit.specs.Walk.{first_code}
-use Rattle.binary.proofs.Putting.{Putting, putting_none, falls, putting_more, putting_all}
+use Rattle.binary.proofs.Putting.{Putting}
 use Rattle.binary.proofs.put.put_gates.Given as goal
 
 abbrev pub invariant-loop-j : goal.invariant-loop-j

@@ -1,8 +1,7 @@
 -- `answered::put_words` meets its contract: eleven stores from the first word on leave the answer words, and what stood past them. Assumes nothing.
-use Prim.Native.Nat.{ℕ}
 use native.Mathlib.Omega.{arith}
 use lib.ListN.{length-set}
-use borrow.Author.Rules.{rules, length_unmapped}
+use borrow.Author.Rules.{rules}
 use Rattle.file_words.proofs.Words.{words_put}
 use Rattle.file_words.proofs.answered.put_words.Goals as goal
 

@@ -1,6 +1,5 @@
 -- `written::put_answer` meets its contract: a file that is written and a refusal are the two ways out, each by its law. Assumes nothing.
 use Rattle.file_words.proofs.Writing.{said_written, said_unwritten}
-use borrow.Author.Rules.{rules}
 use Rattle.file_words.proofs.written.put_answer.Goals as goal
 
 pub returns-in-Written : goal.returns-in-Written

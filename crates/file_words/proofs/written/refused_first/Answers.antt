@@ -1,6 +1,5 @@
 -- `written::refused_first` meets its contract: its two tests are those of what is refused first, in the same order. Assumes nothing.
 use Rattle.file_words.proofs.Writing.{first_short, first_counts, first-none}
-use borrow.Author.Rules.{rules}
 use Rattle.file_words.proofs.written.refused_first.Goals as goal
 
 pub returns-then-answer-lt2 : goal.returns-then-answer-lt2

@@ -1,6 +1,5 @@
 -- `written::shape_of` meets its contract: five counts read one by one are the list. Assumes nothing.
 use Rattle.file_words.proofs.Writing.{shape_same}
-use borrow.Author.Rules.{rules}
 use Rattle.file_words.proofs.written.shape_of.Goals as goal
 
 pub returns : goal.returns

@@ -4,7 +4,6 @@ use mathlib.Core.Path.{ap, ◌∙◌}
 use Rattle.sheet_read.proofs.Headers.{taken_at}
 use Rattle.sheet.proofs.Circuits.{record_same}
 use Rattle.lit.specs.Code.{is_odd, variable}
-use borrow.Author.Rules.{rules}
 use Rattle.sheet.proofs.header.circuit_on.Goals as goal
 
 pub word-requires : goal.word-requires

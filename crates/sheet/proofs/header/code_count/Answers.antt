@@ -1,6 +1,5 @@
 -- `header::code_count` meets its contract: a header that is taken announces as many codes as follow. Assumes nothing.
 use mathlib.Core.Path.{◌∙◌}
-use borrow.Author.Rules.{rules}
 use Rattle.sheet_read.proofs.Headers.{announced_taken}
 use Rattle.sheet.proofs.header.code_count.Goals as goal
 

@@ -1,10 +1,7 @@
 -- `lists::narrow` meets its contract: a turn of the loop copies one code more (`Copied`), and every code is one of 32 bits. Assumes nothing.
-use borrow.Author.Rules.{rules}
 use Prim.Native.Nat.{◌-◌}
-use mathlib.Core.Path.{refl, sym, ◌∙◌}
-use native.Mathlib.Omega.{arith}
 use lib.ListN.{length}
-use Rattle.sheet.proofs.Cells.{Copied, copied_none, copied_more, copied_all}
+use Rattle.sheet.proofs.Cells.{Copied}
 use Rattle.sheet.proofs.lists.narrow.Given as goal
 
 abbrev pub invariant-loop-i : goal.invariant-loop-i

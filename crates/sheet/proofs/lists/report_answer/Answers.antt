@@ -6,7 +6,6 @@ use lib.Seq.{length-take-le}
 use Rattle.sheet_read.proofs.Headers.{bounds}
 use Rattle.sheet_lines.proofs.Texts.{put_same}
 use Rattle.sheet.proofs.Answers.{zeros_long, given_made, given_ordered, given_refused}
-use borrow.Author.Rules.{rules}
 use Rattle.sheet.proofs.lists.report_answer.Goals as goal
 
 pub slice_bounds-resets-end : goal.slice_bounds-resets-end

@@ -1,5 +1,4 @@
 -- `lists::report_codes` meets its contract: check 4 is made on the codes themselves, and codes that pass it are words. Assumes nothing.
-use borrow.Author.Rules.{rules}
 use mathlib.Core.Path.{sym, ◌∙◌}
 use native.Mathlib.Omega.{arith}
 use lib.Seq.{length-take-le}

@@ -1,5 +1,4 @@
 -- `lists::report_words` meets its contract: the lists are parts of the words, and the latches' part is split into the fronts of two rows. Assumes nothing.
-use borrow.Author.Rules.{rules}
 use Prim.Native.Nat.{ℕ, ◌+◌, ◌*◌}
 use mathlib.Core.Path.{refl, sym, ap, ◌∙◌}
 use native.Mathlib.Omega.{arith}

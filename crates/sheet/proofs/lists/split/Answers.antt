@@ -1,9 +1,6 @@
 -- `lists::split` meets its contract: a turn of the loop copies one state and one next more (`Copied`). Assumes nothing.
-use Prim.Native.Nat.{◌-◌}
 use native.Mathlib.Omega.{arith}
-use lib.ListN.{length}
-use Rattle.sheet.specs.Circuit.{states_of, nexts_of}
-use Rattle.sheet.proofs.Cells.{Copied, copied_none, copied_more, copied_all, states_length, nexts_length, states_at, nexts_at}
+use Rattle.sheet.proofs.Cells.{copied_none, copied_more, copied_all, states_length, nexts_length, states_at, nexts_at}
 use Rattle.sheet.proofs.lists.split.Goals as goal
 
 pub loop-j-init : goal.loop-j-init

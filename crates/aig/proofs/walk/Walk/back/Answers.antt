@@ -1,5 +1,4 @@
 -- `Walk::back`: with no entry the walk is at its end; else the word on top is its frame's. Assumes nothing.
-use borrow.Author.Rules.{rules}
 use native.Mathlib.Omega.{arith}
 use mathlib.Core.Path.{ap}
 use Rattle.aig.specs.declared.walk.Walk.{Walk}

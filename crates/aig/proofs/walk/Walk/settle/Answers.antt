@@ -3,7 +3,6 @@ use native.Mathlib.Omega.{arith}
 use mathlib.Core.Path.{refl}
 use Rattle.aig.proofs.Settling.{free_within, settled_by_code, settled_by_gate}
 use Rattle.aig.proofs.Finding.{out_length}
-use borrow.Author.Rules.{rules}
 use Rattle.aig.proofs.walk.Walk.settle.Goals as goal
 
 pub already-search-requires : goal.already-search-requires
