@@ -29,7 +29,7 @@ use Rattle.circuit.proofs.Ordered.{count_from-length, gates_from-length}
 use Rattle.circuit.proofs.Success as S
 use Rattle.lines.specs.Reading.{Read, got}
 use Rattle.ordered.specs.declared.Expansion.{Expansion}
-use Rattle.ordered.specs.declared.Expansion.TheVariants.{Expanded, TooBig, Misshapen, Short}
+use Rattle.ordered.specs.declared.Expansion.TheVariants.{Expanded, Short}
 use Rattle.ordered.specs.declared.given.Fault.TheVariants as G
 use Rattle.ordered.specs.WellOrdered.{WellOrdered}
 use Rattle.ordered.specs.Keeps.{Keeps}

@@ -1,7 +1,7 @@
 -- What C sees as 0 is a success: no refusal has the number 0, and fewer than fourteen answer words are told by 3. Assumes nothing.
 use Prim.Native.Nat.{ℕ, ◌<◌, ◌≤◌}
 use mathlib.Core.Path.{◌≡◌, refl, sym, ap, ◌∙◌}
-use mathlib.Core.Logic.{◌≢◌, ◌↔◌}
+use mathlib.Core.Logic.{◌↔◌}
 use mathlib.Core.Bool.{Bool, cond}
 use mathlib.Core.List.{List}
 use native.Mathlib.Omega.{arith}
@@ -22,10 +22,10 @@ use Rattle.ordered.specs.declared.given.Fault.TheVariants as W
 use Rattle.ordered.specs.Check as writing
 use Rattle.intake.specs.declared.OrderAnswer.{OrderAnswer}
 use Rattle.intake.specs.declared.OrderAnswer.TheVariants.{Ordered, Unread, Unordered, Unstored}
-use Rattle.intake.specs.Order.{Lists, Outcome, ordering}
+use Rattle.intake.specs.Order.{Lists, ordering}
 use Rattle.intake.specs.Intake.{Orderable}
 use Rattle.intake.proofs.Intake.{exactly_when}
-use Rattle.intake_words.specs.Order.{OrderSeen, order_number, as_order_seen, ordering_seen}
+use Rattle.intake_words.specs.Order.{order_number, as_order_seen, ordering_seen}
 
 -- no refusal has the number 0
 reason_some : (why : Reason) → 0 < reason_number why

@@ -1,5 +1,4 @@
 -- `imdagluz_delta` meets its contract: it is `put_delta`'s. Assumes nothing.
-use borrow.Author.Rules.{rules}
 use Rattle.capi.proofs.imdagluz_delta.Goals as goal
 
 pub returns : goal.returns

@@ -1,5 +1,4 @@
 -- `imdagluz_expand` meets its contract: the outcome is `ordered::expand`'s, and the number that of its answer. Assumes nothing.
-use borrow.Author.Rules.{rules}
 use Rattle.ordered.specs.Expand.{Lists, seen}
 use Rattle.capi.proofs.Expanding.{way_expanded}
 use Rattle.capi.proofs.imdagluz_expand.Goals as goal

@@ -1,7 +1,6 @@
 -- `numbered` meets its contract: the fronts that are lent are there, and what renumbering leaves is what the definition leaves. Assumes nothing.
 use mathlib.Core.Path.{ap}
 use Prim.Native.Nat.{ℕ, ◌*◌}
-use borrow.Author.Rules.{rules}
 use Rattle.intake.proofs.Steps.{front, numbers}
 use Rattle.intake.proofs.numbered.Goals as goal
 

@@ -1,5 +1,4 @@
 -- `onward` meets its contract: flags over 7, a refusal of renumbering, and what writing answers are its ways out, each by its law. Assumes nothing.
-use borrow.Author.Rules.{rules}
 use Rattle.circuit.specs.Outcome.{outcome_of}
 use Rattle.intake.specs.Order.{Lists, Renumbering, taken_of, leaving}
 use Rattle.intake.proofs.Steps.{filled, over_seven, refused, written, unwritten}

@@ -1,5 +1,4 @@
 -- `order` meets its contract: the file is refused where reading refuses it, and goes on where it is taken. Assumes nothing.
-use borrow.Author.Rules.{rules}
 use Rattle.binary.specs.Promise as B
 use Rattle.intake.specs.Order.{Lists, lists, seen}
 use Rattle.intake.proofs.Steps.{reads, unread, taken}

@@ -1,5 +1,4 @@
 -- `record_of` meets its contract: the sum of three numbers within the limit is their sum, and each flag is its bit. Assumes nothing.
-use borrow.Author.Rules.{rules}
 use Rattle.lit.specs.Code.{is_odd}
 use Rattle.intake.proofs.Steps.{record_same}
 use Rattle.intake.proofs.record_of.Goals as goal

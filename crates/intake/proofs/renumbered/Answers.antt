@@ -1,7 +1,6 @@
 -- `renumbered` meets its contract: what is expanded is renumbered, and any other answer of expanding is the refusal of that name. Assumes nothing.
 use mathlib.Core.Path.{refl, ap}
 use Prim.Native.Nat.{ℕ, ◌*◌}
-use borrow.Author.Rules.{rules}
 use Rattle.ordered.specs.declared.Expansion.TheVariants.{Expanded, TooBig, Misshapen, Short}
 use Rattle.ordered.specs.Expand as E
 use Rattle.circuit.specs.Outcome.{outcome_of, untouched}

@@ -3,7 +3,7 @@ use Prim.Native.Nat.{ℕ}
 use mathlib.Core.Path.{ap, ◌∙◌}
 use native.Mathlib.Omega.{arith}
 use lib.ListN.{length-set}
-use borrow.Author.Rules.{rules, length_unmapped}
+use borrow.Author.Rules.{rules}
 use Rattle.circuit.specs.Outcome.{onto}
 use Rattle.file_words.specs.Read.{answer_words}
 use Rattle.file_words.proofs.Words.{words_put}

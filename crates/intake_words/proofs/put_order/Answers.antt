@@ -1,8 +1,6 @@
 -- `put_order` meets its contract: the file's eleven words and the three after them are the fourteen. Assumes nothing.
-use native.Mathlib.Omega.{arith}
-use Prim.Native.Nat.{ℕ}
 use mathlib.Core.Path.{◌∙◌}
-use borrow.Author.Rules.{rules, length_unmapped}
+use borrow.Author.Rules.{rules}
 use Rattle.intake_words.proofs.Ordering.{order_put}
 use Rattle.intake_words.proofs.put_order.Goals as goal
 

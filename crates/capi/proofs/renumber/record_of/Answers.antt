@@ -1,6 +1,5 @@
 -- `renumber::record_of` meets its contract: five counts read one by one are the list, and each flag is its bit. Assumes nothing.
 use Rattle.capi.proofs.Renumbering.{record_same}
-use borrow.Author.Rules.{rules}
 use Rattle.lit.specs.Code.{is_odd}
 use Rattle.capi.proofs.renumber.record_of.Goals as goal
 
