@@ -1,6 +1,6 @@
 // Reads a sheet from standard input and writes the report on it to standard output. Of a sheet that is too long one byte more than the longest is
 // read, which is enough to know. Where a read fails nothing is written: a report is never empty, so that whoever runs the program sees that there
-// is none. Where a write fails the report stops there, and its first line says how many lines were to come.
+// is none. Where a write fails the report stops there, and the program ends with the error; the first line says how many lines were to come.
 #![tactic(auto)]
 
 ghost use Rattle.std.specs.Prelude.{◌≡◌, ◌≤◌, length, take};
