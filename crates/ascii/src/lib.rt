@@ -100,7 +100,7 @@ fn lists(
     roots: &mut [u32],
 ) -> Reading
     requires { (Within h) × (Roomy h (room_of (record {
-      inputs = inputs.now;
+      inputs = inputs.old;
       states = states.old;
       nexts = nexts.old;
       resets = resets.old;

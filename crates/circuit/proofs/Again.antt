@@ -1,27 +1,26 @@
 -- An ordered circuit whose gates are each new where they stand comes out of the walk of its own gates as it went in (`again`), by induction on the gates:
--- when a gate's turn comes its inputs go to themselves, so it is settled as a new gate with its own code. The start, next states and roots are those of
--- proofs/Second.antt. Assumes nothing.
+-- when a gate's turn comes its inputs go to themselves, so it is settled as a new gate with its own code. Assumes nothing. For document 02's Q-14, that a
+-- second pass changes nothing. No statement of the base stands on it.
 use Prim.Native.Nat.{ℕ, zero, suc, ◌+◌, ◌-◌, ◌*◌, ◌/◌, ◌<◌, ◌≤◌, min, max}
 use mathlib.Core.Path.{◌≡◌, refl, sym, ◌∙◌, ap, ap₂, subst}
+use mathlib.Core.Logic.{◌⊎◌, inl, inr, ◌≢◌}
 use mathlib.Core.Bool.{Bool, true, false, cond}
-use mathlib.Core.Option.{Option, some}
+use mathlib.Core.Option.{Option, none, some}
 use mathlib.Core.List.{List, [], ◌∷◌, ◌++◌}
 use native.Mathlib.Omega.{arith}
 use lib.Dec.{eqb}
-use lib.ListN.{length, get_or, take, length-take}
+use lib.ListN.{length, get_or, take, length-set, length-take}
 use lib.Seq.{take-suc}
-use Rattle.lit.specs.Code.{var, literal}
+use Rattle.lit.specs.Code.{var, literal, flipped}
 use Rattle.circuit.specs.declared.Image.{Image}
 use Rattle.circuit.specs.declared.Image.TheVariants.{Absent, Code}
-use Rattle.circuit.specs.Graph.{Gate, gate_for}
+use Rattle.circuit.specs.Graph.{Gate, out_var, gate_for}
 use Rattle.circuit.specs.Map.{no_image, image_in, code_of, store}
 use Rattle.circuit.specs.Walk.{Net, source_count, Pair, Work, Out, reached, first_code, next_code, already, settle_as, settle_on, settle, look, look_at, is_middle, answer, and_then, through_inputs, no_room, walk, stack_room, walk_all}
 use Rattle.circuit.specs.Ordered.{no_pair, InOrder, gates_from, count_from}
-use Rattle.circuit.specs.Invariant.{Fresh}
-use Rattle.circuit.proofs.Tests.{Same, same, other, same_test}
-use Rattle.circuit.proofs.Map.{store_length, no_image_lem}
-use Rattle.circuit.proofs.Ordered.{gates_from-length}
-use Rattle.circuit.proofs.Identity.{Identity, one_more, own_image}
+use Rattle.circuit.proofs.Tests.{Same, same, other, same_test, lt_or}
+use Rattle.circuit.proofs.Map.{entry_same, entry_other, code_image, no_image_lem}
+use Rattle.circuit.specs.Invariant.{entry}
 
 abbrev gate_at : ℕ → List Pair → ℕ → Gate
 gate_at t ps j = record { output = t + 2 * j; first = (get_or ps j no_pair).larger; second = (get_or ps j no_pair).smaller }
@@ -48,7 +47,7 @@ find_gate k (p ∷ ps) j h = go j h (eqb (2 * k / 2) (k + j)) (same_test (2 * k 
         ∙ ap (λ (o : ℕ). some (record { output = o; first = (get_or ps j no_pair).larger; second = (get_or ps j no_pair).smaller })) z
 
 -- a literal with an image is walked at once
-pub walk_mapped : (N : Net) (room : ℕ) (path : List ℕ) (w : Work) (c t : ℕ) → image_in w.images c ≡ Code (literal t) → walk N room path w c ≡ reached w
+walk_mapped : (N : Net) (room : ℕ) (path : List ℕ) (w : Work) (c t : ℕ) → image_in w.images c ≡ Code (literal t) → walk N room path w c ≡ reached w
 unfolding walk look
 walk_mapped N zero path w c t e =
     ap (λ (x : Image). answer (look_at c x (is_middle path c) (gate_for N.graph.gates (var c))) w (λ g. no_room)) e
@@ -56,19 +55,21 @@ walk_mapped N (suc room) path w c t e =
     ap (λ (x : Image). answer (look_at c x (is_middle path c) (gate_for N.graph.gates (var c))) w
     (λ g. through_inputs N (λ w' c'. walk N room (path ++ (c ∷ [])) w' c') g w)) e
 
--- after j gates of n sources each variable so far goes to itself, none of the others has an image, and the first j gates are made
-pub record Itself (n : ℕ) (ps : List Pair) (w : Work) (j : ℕ) : Type 0 where
-  pub size : n + 1 + length ps ≤ length w.images
-  pub identity : Identity w.images (n + 1 + j)
-  pub done : w.made ≡ take j ps
-
-module _ (N : Net) (ps : List Pair) (gates_are : N.graph.gates ≡ gates_from (first_code (source_count N)) ps)
-    (few : next_code (source_count N) ps ≤ no_image) (order : InOrder (source_count N) ps) (fresh : Fresh N ps) where
+module _ (N : Net) (ps : List Pair) (gates-are : N.graph.gates ≡ gates_from (first_code (source_count N)) ps)
+    (few : next_code (source_count N) ps ≤ no_image) (order : InOrder (source_count N) ps)
+    (fresh : (j : ℕ) → j < length ps → already N (take j ps) (get_or ps j no_pair).larger (get_or ps j no_pair).smaller ≡ none) where
   -- the first variable of a gate
   abbrev base : ℕ
   base = length N.graph.sources + 1
 
-  module _ (w : Work) (j : ℕ) (h : j < length ps) (i : Itself (source_count N) ps w j) where
+  -- after j gates each variable so far goes to itself, none of the others has an image, and the first j gates are made
+  pub record Itself (w : Work) (j : ℕ) : Type 0 where
+    pub size : base + length ps ≤ length w.images
+    pub low : (v : ℕ) → v < base + j → entry w.images v ≡ 2 * v
+    pub high : (v : ℕ) → base + j ≤ v → entry w.images v ≡ no_image
+    pub done : w.made ≡ take j ps
+
+  module _ (w : Work) (j : ℕ) (h : j < length ps) (i : Itself w j) where
     abbrev g : Gate
     g = gate_at (first_code (source_count N)) ps j
 
@@ -76,15 +77,19 @@ module _ (N : Net) (ps : List Pair) (gates_are : N.graph.gates ≡ gates_from (f
     unfolding first_code
     found_gate =
         let z : var g.output ≡ base + j = omega arith in
-        ap₂ gate_for gates_are z ∙ find_gate base ps j h
+        ap₂ gate_for gates-are z ∙ find_gate base ps j h
 
     out_high : base + j ≤ var g.output
     unfolding first_code
     out_high = omega arith
 
     mapped_itself : (c : ℕ) → c < first_code (source_count N) + 2 * j → image_in w.images c ≡ Code (literal c)
-    unfolding first_code next_code
-    mapped_itself c lt = own_image w.images (base + j) (omega (arith, few)) i.identity c (omega arith)
+    unfolding first_code next_code flipped
+    mapped_itself c lt =
+        let e : entry w.images (var c) ≡ 2 * var c = i.low (var c) (omega arith) in
+        let n : entry w.images (var c) ≢ no_image = omega (arith, e, few) in
+        let z : flipped (2 * var c) c ≡ c = omega arith in
+        code_image w.images c n ∙ ap (λ (x : ℕ). Code (literal (flipped x c))) e ∙ ap (λ (x : ℕ). Code (literal x)) z
 
     abbrev hi : ℕ
     hi = (get_or ps j no_pair).larger
@@ -120,7 +125,7 @@ module _ (N : Net) (ps : List Pair) (gates_are : N.graph.gates ≡ gates_from (f
     unfolding walk look through_inputs
     walked_new room =
         let c : ℕ = g.output in
-        let e : image_in w.images c ≡ Absent = no_image_lem w.images c (i.identity.high (var c) out_high) in
+        let e : image_in w.images c ≡ Absent = no_image_lem w.images c (i.high (var c) out_high) in
         let rec : Work → ℕ → Out = λ w₁ c₁. walk N room (c ∷ []) w₁ c₁ in
         ap₂ (λ (x : Image) (y : Option Gate). answer (look_at c x false y) w
         (λ g₁. and_then (rec w g₁.first) (λ w₁. and_then (rec w₁ g₁.second) (λ w₂. reached (settle N w₂ g₁))))) e found_gate
@@ -130,27 +135,36 @@ module _ (N : Net) (ps : List Pair) (gates_are : N.graph.gates ≡ gates_from (f
         (walk_mapped N room (c ∷ []) w lo lo (mapped_itself lo (omega (arith, (order j h).0, (order j h).1))))
         ∙ ap reached settled_new
 
+    low' : (v : ℕ) → v < base + suc j → (v < base + j) ⊎ (base + j ≤ v) → entry w'.images v ≡ 2 * v
+    unfolding first_code flipped
+    low' v lt (inl a) = entry_other w.images g.output g.output v (omega arith) ∙ i.low v a
+    low' v lt (inr b) =
+        let z : v ≡ var g.output = omega arith in
+        let y : flipped g.output g.output ≡ 2 * v = omega arith in
+        ap (entry w'.images) z ∙ entry_same w.images g.output g.output (omega (arith, i.size)) ∙ y
+
     -- and it is then as before, one gate on
-    next_itself : Itself (source_count N) ps w' (suc j)
-    unfolding first_code
-    next_itself =
-        let z : suc (base + j) ≡ base + suc j = omega arith in
-        record {
-          size = omega (arith, i.size, store_length w.images g.output g.output);
-          identity =
-              subst (Identity (store w.images g.output g.output)) z
-              (one_more w.images (base + j) g.output (omega arith) (omega (arith, i.size)) i.identity);
-          done = refl;
-        }
+    next_itself : Itself w' (suc j)
+    unfolding first_code store
+    next_itself = record {
+      size = subst (λ (n : ℕ). base + length ps ≤ n) (sym (length-set w.images (g.output / 2) (flipped g.output g.output))) i.size;
+      low = λ v lt. low' v lt (lt_or v (base + j));
+      high = λ v le. entry_other w.images g.output g.output v (omega arith) ∙ i.high v (omega arith);
+      done = refl;
+    }
 
   many_gates : length N.graph.gates ≡ length ps
-  many_gates = ap length gates_are ∙ gates_from-length (first_code (source_count N)) ps
+  many_gates = ap length gates-are ∙ go (first_code (source_count N)) ps
+    where
+      go : (t : ℕ) (qs : List Pair) → length (gates_from t qs) ≡ length qs
+      go t [] = refl
+      go t (q ∷ qs) = ap suc (go (t + 2) qs)
 
   -- the walk of the outputs from the j-th on
-  pub again : (n j : ℕ) → j + n ≡ length ps → (w : Work) → Itself (source_count N) ps w j
-      → (w' : Work) × (walk_all N (stack_room N) (count_from (first_code (source_count N) + 2 * j) n) w ≡ reached w') × Itself (source_count N) ps w' (length ps)
+  pub again : (n j : ℕ) → j + n ≡ length ps → (w : Work) → Itself w j
+      → (w' : Work) × (walk_all N (stack_room N) (count_from (first_code (source_count N) + 2 * j) n) w ≡ reached w') × Itself w' (length ps)
   unfolding walk_all
-  again zero j e w i = (w, refl, subst (Itself (source_count N) ps w) (let z : j ≡ length ps = omega arith in z) i)
+  again zero j e w i = (w, refl, subst (Itself w) (let z : j ≡ length ps = omega arith in z) i)
   again (suc n) j e w i =
       let h : j < length ps = omega arith in
       let room : stack_room N ≡ suc (stack_room N - 1) = omega (arith, many_gates) in

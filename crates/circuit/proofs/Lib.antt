@@ -36,4 +36,5 @@ pub mod Deepest
 pub mod Checker
 pub mod Identity
 pub mod Again
+pub mod Unchanged
 pub mod Second

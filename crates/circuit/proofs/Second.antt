@@ -23,7 +23,7 @@ use Rattle.circuit.proofs.Tests.{AtMost, above, le_test}
 use Rattle.circuit.proofs.Lists.{In-cases}
 use Rattle.circuit.proofs.Ordered.{count_from-length, ordered_sources}
 use Rattle.circuit.proofs.Identity.{Identity, start_identity, start_size, own_image, own_images}
-use Rattle.circuit.proofs.Again.{Itself, walk_mapped, again}
+use Rattle.circuit.proofs.Unchanged.{Itself, walk_mapped, again}
 
 -- literals in turn, in two parts
 walk_parts : (N : Net) (room : ℕ) (xs ys : List ℕ) (w : Work)
