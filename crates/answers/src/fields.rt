@@ -1,5 +1,5 @@
 // The parts of a question's line: a word, numbers in decimal, and bytes in hexadecimal, a space between each two.
-ghost use Rattle.std.specs.Prelude.{◌≤◌, length};
+ghost use Rattle.std.specs.Prelude.{◌≤◌, length, ◌≡◌, take};
 
 use token::Token;
 
@@ -41,7 +41,7 @@ pub fn number(s: &[u8], at: usize) -> Field {
 
 // The numbers that stand behind a letter and a space, as many as there is room for, and how many they are: none where the line does not have the letter.
 pub fn list(s: &[u8], letter: u8, out: &mut [u32]) -> usize
-    ensures { result ≤ length out.new }
+    ensures { (result ≤ length out.new) × (result ≡ length (take result out.new)) }
 {
     let mut n = 0;
     let mut at = sum(find(s, 0, s.len(), letter), 2);
@@ -59,7 +59,7 @@ pub fn list(s: &[u8], letter: u8, out: &mut [u32]) -> usize
 
 // The bytes whose hexadecimal digits stand from a place on, as many as there is room for, and how many they are.
 pub fn bytes(s: &[u8], from: usize, out: &mut [u8]) -> usize
-    ensures { result ≤ length out.new }
+    ensures { (result ≤ length out.new) × (result ≡ length (take result out.new)) }
 {
     let mut n = 0;
     let mut at = from;

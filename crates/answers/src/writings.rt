@@ -2,7 +2,7 @@
 // and roots; `textwrite` and the same, for a text; or `again` and the bytes of a binary file, which is read and written into as many bytes. The answer is `W`, the
 // number and the two words of `file_words::write` or `file_words::write_text`, and every lent byte, which is 165 where nothing is written. A file that is
 // refused is answered `R`, the number and the place.
-ghost use Rattle.std.specs.Prelude.{◌<◌, ◌≤◌, length};
+ghost use Rattle.std.specs.Prelude.{◌<◌, ◌≤◌, length, ◌≡◌, take};
 
 use crate::say::Output;
 use crate::{fields, say};
@@ -225,13 +225,13 @@ fn count(words: &[u64], at: usize) -> u32
 
 // The number, or the list's length where that is smaller; and the same of bytes.
 fn front(n: usize, list: &[u32]) -> usize
-    ensures { result ≤ length list.now }
+    ensures { (result ≤ length list.now) × (result ≡ length (take result list.now)) }
 {
     if n < list.len() { n } else { list.len() }
 }
 
 fn bytes_front(n: usize, list: &[u8]) -> usize
-    ensures { result ≤ length list.now }
+    ensures { (result ≤ length list.now) × (result ≡ length (take result list.now)) }
 {
     if n < list.len() { n } else { list.len() }
 }

@@ -1,12 +1,12 @@
 // Bytes as a text in quotes: `\n` and `\r` for the ends of lines, `\x` and two hexadecimal digits for any byte, and each other letter for itself.
-ghost use Rattle.std.specs.Prelude.{◌≤◌, length};
+ghost use Rattle.std.specs.Prelude.{◌≤◌, length, ◌≡◌, take};
 
 use crate::say::Output;
 use crate::{fields, say};
 
 // The bytes of the text that begins at a place, up to its quote, as many as there is room for, and how many they are.
 pub fn bytes(s: &[u8], from: usize, out: &mut [u8]) -> usize
-    ensures { result ≤ length out.new }
+    ensures { (result ≤ length out.new) × (result ≡ length (take result out.new)) }
 {
     let mut n = 0;
     let mut at = from;

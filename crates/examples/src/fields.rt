@@ -1,5 +1,5 @@
 // The parts of an example's line: words with a space between each two, numbers in decimal, and bytes in hexadecimal.
-ghost use Rattle.std.specs.Prelude.{◌≤◌, length};
+ghost use Rattle.std.specs.Prelude.{◌≤◌, length, ◌≡◌, take};
 
 use token::Token;
 
@@ -52,7 +52,7 @@ pub fn number(s: &[u8], at: usize) -> u64 {
 
 // The bytes that stand from a place on, each as two digits and a space, as many as there is room for, and how many they are.
 pub fn bytes(s: &[u8], from: usize, out: &mut [u8]) -> usize
-    ensures { result ≤ length out.new }
+    ensures { (result ≤ length out.new) × (result ≡ length (take result out.new)) }
 {
     let mut n = 0;
     let mut at = from;

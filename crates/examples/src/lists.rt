@@ -1,6 +1,6 @@
 // The lists of a circuit's line. A capital letter names a list, and a semicolon ends it: of `V=3; Inputs 4, 2; Gate 6(2,4); Root 6` the gates are
 // the numbers 6, 2 and 4. A list that the line does not name is empty.
-ghost use Rattle.std.specs.Prelude.{◌≤◌, length};
+ghost use Rattle.std.specs.Prelude.{◌≤◌, length, ◌≡◌, take};
 
 use crate::fields::find;
 use token::Token;
@@ -12,7 +12,7 @@ pub fn named(s: &[u8], letter: u8) -> bool {
 
 // Puts the numbers of the letter's list into the words, as many as there is room for, and answers how many they are.
 pub fn list(s: &[u8], letter: u8, words: &mut [u32]) -> usize
-    ensures { result ≤ length words.new }
+    ensures { (result ≤ length words.new) × (result ≡ length (take result words.new)) }
 {
     let mut at = find(s, 0, s.len(), letter);
     let mut last = letter;
@@ -31,7 +31,7 @@ pub fn list(s: &[u8], letter: u8, words: &mut [u32]) -> usize
 
 // The same where the line has the letter; else the words as they are, as many as asked for.
 pub fn list_or(s: &[u8], letter: u8, words: &mut [u32], others: usize) -> usize
-    ensures { result ≤ length words.new }
+    ensures { (result ≤ length words.new) × (result ≡ length (take result words.new)) }
 {
     if named(s, letter) {
         return list(s, letter, words);

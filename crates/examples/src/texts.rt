@@ -1,6 +1,6 @@
 // Text files: reads the one that stands in quotes on an example's line, and prints the line, the answer and the lists that were lent. These hold 77, so that
 // a word written past those named would show.
-ghost use Rattle.std.specs.Prelude.{◌≤◌, length};
+ghost use Rattle.std.specs.Prelude.{◌≤◌, length, ◌≡◌, take};
 
 use crate::fields::find;
 use crate::say::Output;
@@ -93,7 +93,7 @@ fn just(to: &mut Output, kind: u8, file: &[u8]) {
 
 // How many words of the list are lent: one less where its letter is named.
 fn lent(kind: u8, letter: u8, list: &[u32]) -> usize
-    ensures { result ≤ length list.now }
+    ensures { (result ≤ length list.now) × (result ≡ length (take result list.now)) }
 {
     let fewer = if kind == letter { 1 } else { 0 };
     writings::front(less(list.len(), fewer), list)

@@ -1,6 +1,6 @@
 // Writing: the ordered circuit on an example's line, or the one that is read of the file in quotes there, is written into lent bytes. The line is printed,
 // the answer, the answer's words and all bytes that were lent. The words are 77 and the bytes `~` before, so that one written past those named would show.
-ghost use Rattle.std.specs.Prelude.{◌<◌, ◌≤◌, length};
+ghost use Rattle.std.specs.Prelude.{◌<◌, ◌≤◌, length, ◌≡◌, take};
 
 use crate::fields::find;
 use crate::say::Output;
@@ -236,19 +236,19 @@ fn count(words: &[u64], at: usize) -> u32
 
 // The number, or the list's length where that is smaller. The two functions after it are the same for bytes and for the answer's words.
 pub fn front(n: usize, list: &[u32]) -> usize
-    ensures { result ≤ length list.now }
+    ensures { (result ≤ length list.now) × (result ≡ length (take result list.now)) }
 {
     if n < list.len() { n } else { list.len() }
 }
 
 fn bytes_front(n: usize, list: &[u8]) -> usize
-    ensures { result ≤ length list.now }
+    ensures { (result ≤ length list.now) × (result ≡ length (take result list.now)) }
 {
     if n < list.len() { n } else { list.len() }
 }
 
 fn words_front(n: usize, list: &[u64]) -> usize
-    ensures { result ≤ length list.now }
+    ensures { (result ≤ length list.now) × (result ≡ length (take result list.now)) }
 {
     if n < list.len() { n } else { list.len() }
 }
