@@ -1,9 +1,9 @@
 -- Ways through the trie: a search finds what a search among all gates made finds, and a gate in a free place keeps what holds. Assumes nothing.
+use Rattle.std.specs.Prelude.{Option, Some, None}
 use Prim.Native.Nat.{ℕ, zero, suc, ◌+◌, ◌*◌, ◌/◌, ◌%◌, ◌^◌, ◌<◌, ◌≤◌}
 use mathlib.Core.Path.{◌≡◌, refl, sym, ◌∙◌, ap, ap₂, subst, subst₂}
 use mathlib.Core.Logic.{◌⊎◌, inl, inr, ◌≢◌}
 use mathlib.Core.Bool.{Bool, true, false, cond, ◌&&◌}
-use mathlib.Core.Option.{Option, none, some}
 use mathlib.Core.List.{List, [], ◌∷◌, ◌++◌}
 use native.Mathlib.Omega.{arith}
 use lib.Dec.{eqb}
@@ -17,23 +17,23 @@ use Rattle.aig.specs.Trie.{gate_in, larger_of, smaller_of, head_of, key_of, key_
 
 -- the search among a list and one gate more
 else_assoc : (a b : Option ℕ) (o : Option ℕ) → or_else (or_else a b) o ≡ or_else a (or_else b o)
-else_assoc none b o = refl
-else_assoc (some x) b o = refl
+else_assoc None b o = refl
+else_assoc (Some x) b o = refl
 
 before_snoc : (ps : List Pair) (p : Pair) (t hi lo : ℕ)
-    → made_before (ps ++ (p ∷ [])) t hi lo ≡ or_else (cond (eqb p.larger hi && eqb p.smaller lo) (some (t + 2 * length ps)) none) (made_before ps t hi lo)
+    → made_before (ps ++ (p ∷ [])) t hi lo ≡ or_else (cond (eqb p.larger hi && eqb p.smaller lo) (Some (t + 2 * length ps)) None) (made_before ps t hi lo)
 before_snoc [] p t hi lo = go (eqb p.larger hi && eqb p.smaller lo)
   where
-    go : (b : Bool) → or_else none (cond b (some t) none) ≡ or_else (cond b (some (t + 0)) none) none
-    go true = let e : t ≡ t + 0 = omega arith in ap some e
+    go : (b : Bool) → or_else None (cond b (Some t) None) ≡ or_else (cond b (Some (t + 0)) None) None
+    go true = let e : t ≡ t + 0 = omega arith in ap Some e
     go false = refl
 before_snoc (q ∷ ps) p t hi lo =
     let e : t + 2 + 2 * length ps ≡ t + 2 * length (q ∷ ps) = omega arith in
-    ap (λ (o : Option ℕ). or_else o (cond (eqb q.larger hi && eqb q.smaller lo) (some t) none))
+    ap (λ (o : Option ℕ). or_else o (cond (eqb q.larger hi && eqb q.smaller lo) (Some t) None))
     (before_snoc ps p (t + 2) hi lo
-    ∙ ap (λ (k : ℕ). or_else (cond (eqb p.larger hi && eqb p.smaller lo) (some k) none) (made_before ps (t + 2) hi lo)) e)
-    ∙ else_assoc (cond (eqb p.larger hi && eqb p.smaller lo) (some (t + 2 * length (q ∷ ps))) none) (made_before ps (t + 2) hi lo)
-    (cond (eqb q.larger hi && eqb q.smaller lo) (some t) none)
+    ∙ ap (λ (k : ℕ). or_else (cond (eqb p.larger hi && eqb p.smaller lo) (Some k) None) (made_before ps (t + 2) hi lo)) e)
+    ∙ else_assoc (cond (eqb p.larger hi && eqb p.smaller lo) (Some (t + 2 * length (q ∷ ps))) None) (made_before ps (t + 2) hi lo)
+    (cond (eqb q.larger hi && eqb q.smaller lo) (Some t) None)
 
 -- what is found among the first n gates
 abbrev pub first_ones : List Pair → ℕ → ℕ → ℕ → ℕ → Option ℕ
@@ -42,20 +42,20 @@ first_ones made n t hi lo = made_before (take n made) t hi lo
 module _ (made : List Pair) (t hi lo : ℕ) where
   one_more : (j : ℕ) → j < length made
       → first_ones made (suc j) t hi lo
-      ≡ or_else (cond (eqb (larger_of made j) hi && eqb (smaller_of made j) lo) (some (t + 2 * j)) none) (first_ones made j t hi lo)
+      ≡ or_else (cond (eqb (larger_of made j) hi && eqb (smaller_of made j) lo) (Some (t + 2 * j)) None) (first_ones made j t hi lo)
   one_more j h =
       ap (λ (l : List Pair). made_before l t hi lo) (take-suc made j no_pair h) ∙ before_snoc (take j made) (get_or made j no_pair) t hi lo
-      ∙ ap (λ (k : ℕ). or_else (cond (eqb (larger_of made j) hi && eqb (smaller_of made j) lo) (some (t + 2 * k)) none) (first_ones made j t hi lo))
+      ∙ ap (λ (k : ℕ). or_else (cond (eqb (larger_of made j) hi && eqb (smaller_of made j) lo) (Some (t + 2 * k)) None) (first_ones made j t hi lo))
       (length-take-le j made (omega arith))
 
-  pub finds_here : (j : ℕ) → j < length made → larger_of made j ≡ hi → smaller_of made j ≡ lo → first_ones made (suc j) t hi lo ≡ some (t + 2 * j)
+  pub finds_here : (j : ℕ) → j < length made → larger_of made j ≡ hi → smaller_of made j ≡ lo → first_ones made (suc j) t hi lo ≡ Some (t + 2 * j)
   finds_here j h p q = one_more j h ∙ rw (eq-eqb _ _ p, eq-eqb _ _ q)
 
   other_pair : (j : ℕ) → j < length made → (larger_of made j ≡ hi → smaller_of made j ≡ lo → ⊥) → first_ones made (suc j) t hi lo ≡ first_ones made j t hi lo
   other_pair j h n = one_more j h ∙ go (eqb (larger_of made j) hi) (same_test (larger_of made j) hi)
     where
       go : (b : Bool) → Same (larger_of made j) hi b
-          → or_else (cond (b && eqb (smaller_of made j) lo) (some (t + 2 * j)) none) (first_ones made j t hi lo) ≡ first_ones made j t hi lo
+          → or_else (cond (b && eqb (smaller_of made j) lo) (Some (t + 2 * j)) None) (first_ones made j t hi lo) ≡ first_ones made j t hi lo
       go true (same e) = rw (ne_eqb (smaller_of made j) lo (λ f. n e f))
       go false (other f) = refl
 
@@ -74,12 +74,12 @@ module _ (made : List Pair) (t hi lo : ℕ) where
   all_of : made_before made t hi lo ≡ first_ones made (length made) t hi lo
   all_of = ap (λ (l : List Pair). made_before l t hi lo) (sym (take-length made))
 
-  pub before_none : Fresh made (record { larger = hi; smaller = lo }) → made_before made t hi lo ≡ none
+  pub before_none : Fresh made (record { larger = hi; smaller = lo }) → made_before made t hi lo ≡ None
   before_none f = all_of ∙ others_past (length made) 0 (omega arith) (omega arith) (λ j a b. f j b)
 
   pub before_some : (k : ℕ) → k < length made → larger_of made k ≡ hi → smaller_of made k ≡ lo
       → ((i j : ℕ) → i < j → j < length made → larger_of made i ≡ larger_of made j → smaller_of made i ≡ smaller_of made j → ⊥)
-      → made_before made t hi lo ≡ some (t + 2 * k)
+      → made_before made t hi lo ≡ Some (t + 2 * k)
   before_some k h p q once =
       all_of
       ∙ others_past (length made) (suc k) (omega arith) (omega arith) (λ j a b e f. once k j (omega arith) b (p ∙ sym e) (q ∙ sym f))
@@ -174,9 +174,6 @@ module _ {n : ℕ} {made : List Pair} {links : List ℕ} (t : Trie n made links)
   module _ (x : Pair) (h : head_of x < n) where
     abbrev Leads : ℕ → ℕ → Type 0
     Leads d p = Way links n (head_of x) (key_of x) d p
-
-    pub sought_start : Sought n made links x 0 (key_of x) (head_of x)
-    sought_start = record { way = refl; bits = refl; passed = λ i p k b. absurd (omega arith) }
 
     module _ (d left place : ℕ) (q : Sought n made links x d left place) where
       -- a gate stands there

@@ -1,16 +1,14 @@
 -- The walk's second input: both images are there, and settling the gate is the machine's step. Assumes nothing.
+use Rattle.std.specs.Prelude.{Option, Some, None}
 use Prim.Native.Nat.{ℕ, ◌+◌, ◌*◌, ◌<◌, min, max}
 use mathlib.Core.Path.{◌≡◌, sym, ◌∙◌, ap, ap₂, subst}
 use mathlib.Core.Logic.{◌≢◌}
 use mathlib.Core.Bool.{true}
-use mathlib.Core.Option.{Option, some}
 use mathlib.Core.List.{List, ◌∷◌}
 use native.Mathlib.Omega.{arith}
 use lib.ListN.{length}
 use Rattle.lit.specs.Code.{var, literal}
 use Rattle.lit.specs.declared.Lit.{Lit}
-use Rattle.circuit.specs.declared.Image.{Image}
-use Rattle.circuit.specs.declared.Image.TheVariants.{Absent, Code}
 use Rattle.circuit.specs.declared.Refusal.TheVariants.{Undefined}
 use Rattle.circuit.specs.Graph.{Gate, gate_for}
 use Rattle.circuit.specs.Map.{no_image, image_in, code_of}
@@ -26,7 +24,6 @@ use Rattle.circuit.specs.Claims.{gate_at}
 use Rattle.aig.specs.declared.shape.Shape.{Shape}
 use Rattle.fold.specs.declared.Pair.{Pair}
 use Rattle.aig.specs.declared.trie.Search.{Search}
-use Rattle.aig.specs.declared.table.GateNumber.TheVariants.{Number, Nothing}
 use Rattle.aig.specs.declared.walk.Walk.{Walk}
 use Rattle.aig.specs.declared.walk.State.TheVariants.{Second, Return, Stopped}
 use Rattle.aig.specs.Table as table
@@ -42,7 +39,7 @@ use Rattle.aig.proofs.Holding.{Settles, settles}
 use Rattle.aig.proofs.Transferring.{halted, on}
 
 -- an image that is there is read
-no_absent : (m : List ℕ) (c : ℕ) → entry m (var c) ≢ no_image → image_in m c ≡ Absent → ⊥
+no_absent : (m : List ℕ) (c : ℕ) → entry m (var c) ≢ no_image → image_in m c ≡ None → ⊥
 no_absent m c n e = let q = code_image m c n in let z : ◌≡◌ {A = ℕ} 0 1 = cc in omega arith
 
 module _ {s : Shape} {sources gates : List ℕ} {o : Out} {n : Walk} {l : Lit} {map out scratch : List ℕ}
@@ -65,7 +62,7 @@ module _ {s : Shape} {sources gates : List ℕ} {o : Out} {n : Walk} {l : Lit} {
   pub second_within : var l.0 < s.vars
   second_within = frame_inside g t.running
 
-  pub second_none : table.gate_at scratch (var l.0) ≡ Nothing → Onward s sources gates o (Stopped (Undefined l)) map out scratch more
+  pub second_none : table.gate_at scratch (var l.0) ≡ None → Onward s sources gates o (Stopped (Undefined l)) map out scratch more
   unfolding to_go
   second_none e =
       record {
@@ -90,21 +87,21 @@ module _ {s : Shape} {sources gates : List ℕ} {o : Out} {n : Walk} {l : Lit} {
             t.running.stack.1.0 t.running.stack.1.1 t.running.stack.2,
       )
 
-  module _ {j : ℕ} (e : table.gate_at scratch (var l.0) ≡ Number j) where
+  module _ {j : ℕ} (e : table.gate_at scratch (var l.0) ≡ Some j) where
     abbrev G : Gate
     G = gate_at gates j
 
     pub second_reads : 3 * j + 2 < length gates
     second_reads = number_reads g t.holds (var l.0) second_within j e
 
-    its_gate : gate_for (gates_of gates) (var l.0) ≡ some G
+    its_gate : gate_for (gates_of gates) (var l.0) ≡ Some G
     its_gate = table_gate g t.holds (var l.0) second_within j e
 
     fr : FrameOk N t.work (frame l.0 true) t.running.stack.0
     fr = t.running.stack.1.0
 
     same_gate : fr.g ≡ G
-    same_gate = let q : some fr.g ≡ some G = sym (gate_for_of N.graph g.once fr.g (var l.0) fr.is_gate fr.names) ∙ its_gate in cc
+    same_gate = let q : Some fr.g ≡ Some G = sym (gate_for_of N.graph g.once fr.g (var l.0) fr.is_gate fr.names) ∙ its_gate in cc
 
     first_mapped : entry t.work.images (var G.first) ≢ no_image
     first_mapped = subst (λ (x : Gate). entry t.work.images (var x.first) ≢ no_image) same_gate fr.input.1
@@ -115,18 +112,18 @@ module _ {s : Shape} {sources gates : List ℕ} {o : Out} {n : Walk} {l : Lit} {
         (subst (λ (c : ℕ). entry t.work.images (var c) ≢ no_image) fr.input.0 t.running.stack.2)
 
     -- a call's answer a is one of the gate's inputs
-    in_work : {a : Lit} {c : ℕ} {i : Image} → a ≡ literal c → i ≡ image_in map a.0 → image_in t.work.images c ≡ i
+    in_work : {a : Lit} {c : ℕ} {i : Option Lit} → a ≡ literal c → i ≡ image_in map a.0 → image_in t.work.images c ≡ i
     in_work {a} {c} {i} p q = ap₂ (λ (m : List ℕ) (x : Lit). image_in m x.0) (sym t.holds.images) (sym p) ∙ sym q
 
-    pub first_is_there : {a : Lit} {i : Image} → a ≡ literal G.first → i ≡ image_in map a.0 → i ≡ Absent → ⊥
+    pub first_is_there : {a : Lit} {i : Option Lit} → a ≡ literal G.first → i ≡ image_in map a.0 → i ≡ None → ⊥
     first_is_there p q z = no_absent t.work.images G.first first_mapped (in_work p q ∙ z)
 
-    pub second_is_there : {b : Lit} {i : Image} → b ≡ literal G.second → i ≡ image_in map b.0 → i ≡ Absent → ⊥
+    pub second_is_there : {b : Lit} {i : Option Lit} → b ≡ literal G.second → i ≡ image_in map b.0 → i ≡ None → ⊥
     second_is_there p q z = no_absent t.work.images G.second second_mapped (in_work p q ∙ z)
 
-    module _ {x y : Lit} (p : image_in t.work.images G.first ≡ Code x) (q : image_in t.work.images G.second ≡ Code y) where
+    module _ {x y : Lit} (p : image_in t.work.images G.first ≡ Some x) (q : image_in t.work.images G.second ≡ Some y) where
       -- an image's code is one that has been given out
-      code_low : (c : ℕ) (z : Lit) → entry t.work.images (var c) ≢ no_image → image_in t.work.images c ≡ Code z → z.0 < 2 * s.vars
+      code_low : (c : ℕ) (z : Lit) → entry t.work.images (var c) ≢ no_image → image_in t.work.images c ≡ Some z → z.0 < 2 * s.vars
       unfolding code_of next_code first_code
       code_low c z m h =
           let same : code_in t.work.images c ≡ z.0 = ap code_of (sym (code_image t.work.images c m) ∙ h) in
@@ -191,8 +188,8 @@ module _ {s : Shape} {sources gates : List ℕ} {o : Out} {n : Walk} {l : Lit} {
           })
 
     -- a and b are the inputs that calls have read, i and j' their images
-    module _ {a b : Lit} {i j' : Image} (u : a ≡ literal G.first) (v : b ≡ literal G.second) (p : i ≡ image_in map a.0) (q : j' ≡ image_in map b.0)
-        {x y : Lit} (p' : i ≡ Code x) (q' : j' ≡ Code y) {pair : Pair} (is : pair ≡ larger_first x y) where
+    module _ {a b : Lit} {i j' : Option Lit} (u : a ≡ literal G.first) (v : b ≡ literal G.second) (p : i ≡ image_in map a.0) (q : j' ≡ image_in map b.0)
+        {x y : Lit} (p' : i ≡ Some x) (q' : j' ≡ Some y) {pair : Pair} (is : pair ≡ larger_first x y) where
       pub can_settle : CanSettle s n pair out scratch
       can_settle =
           rw is

@@ -1,4 +1,5 @@
 -- After the walks: what `ended` makes of what they leave is the outcome. Assumes nothing.
+use Rattle.std.specs.Prelude.{Result, Ok, Err}
 use Prim.Native.Nat.{ℕ, ◌+◌, ◌*◌, ◌-◌, ◌%◌, ◌^◌, ◌<◌, ◌≤◌}
 use mathlib.Core.Path.{◌≡◌, refl, sym, ap, ap₂, ◌∙◌, subst}
 use mathlib.Core.List.{List, [], ◌∷◌, ◌++◌}
@@ -7,15 +8,14 @@ use native.Mathlib.Omega.{arith}
 use lib.ListN.{length, take, drop, replicate, length-append, length-replicate, take-append-drop}
 use lib.Seq.{get_or-take}
 use Rattle.lit.specs.Code.{var, variable}
-use Rattle.circuit.specs.declared.Answer.{Answer}
-use Rattle.circuit.specs.declared.Answer.TheVariants.{Renumbered, Refused}
+use Rattle.circuit.specs.Answer.{Answer}
 use Rattle.circuit.specs.declared.Refusal.{Refusal}
 use Rattle.circuit.specs.Graph.{In}
 use Rattle.circuit.specs.Map.{no_image, entry_image, image_in, code_of}
 use Rattle.circuit.specs.Walk.{Work, Out, reached, stopped}
 use Rattle.circuit.specs.Circuit.{Circuit, walked, numbered}
 use Rattle.circuit.specs.Ordered.{images_in, carried_from, first_latch, ordered_of}
-use Rattle.circuit.specs.Outcome.{Lent, lent_of, circuit_of, map_words, scratch_words, zeros, onto, pair_words, summary_of, after, outcome}
+use Rattle.circuit.specs.Outcome.{Lent, lent_of, circuit_of, limit, map_words, scratch_words, zeros, onto, pair_words, summary_of, after, outcome}
 use Rattle.circuit.specs.Claims.{Within, Agrees, Roomy}
 use Rattle.circuit.specs.Tested.{Tested}
 use Rattle.circuit.proofs.Words.{pairs_length}
@@ -24,8 +24,7 @@ use Rattle.circuit.proofs.Outcome as O
 use Rattle.circuit.proofs.Outcome.{onto_long}
 use Rattle.lent.proofs.Entries.{images_length}
 use Rattle.images.specs.Begin.{carried_onto}
-use Rattle.images.proofs.Few.{carry_few}
-use Rattle.ending.specs.declared.Walked.{Walked}
+use borrow.Author.Tests.{le-ltb}
 use Rattle.ending.specs.Ending.{made_with, ended}
 use Rattle.ending.proofs.Ended.{outcome_eq}
 use Rattle.aig.specs.Walked.{WalkEnds, WalkIn, EndsIn}
@@ -84,7 +83,7 @@ module _ (l : Lent) (p : Tested l) where
   seen_same = refl
 
   -- the lists m, g and s that the walks leave
-  module _ (r : Walked) (m g s : List ℕ) (k : EndsIn seen l.map l.gates_out l.scratch (numbered seen) r m g s) (em : length m ≡ length l.map)
+  module _ (r : Result ℕ Refusal) (m g s : List ℕ) (k : EndsIn seen l.map l.gates_out l.scratch (numbered seen) r m g s) (em : length m ≡ length l.map)
       (eg : length g ≡ length l.gates_out) (es : length s ≡ length l.scratch) where
     abbrev left : Lent
     left =
@@ -108,7 +107,8 @@ module _ (l : Lent) (p : Tested l) where
     -- the resets carried over
     resets_are : carried_onto (length l.inputs) l.resets l.reset_images
         ≡ onto (carried_from (first_latch (length l.inputs)) l.resets) l.reset_images
-    resets_are = sym (carry_few (length l.inputs) l.resets l.reset_images sizes.inputs (omega (arith, sizes.latches, agr.resets)))
+    unfolding carried_onto
+    resets_are = rw (le-ltb limit (length l.inputs) sizes.inputs, le-ltb limit (length l.resets) (omega (arith, sizes.latches, agr.resets)))
 
     succeeds : (w : Work) → numbered K ≡ reached w → WalkEnds K (reached w) r (take (map_words K) m) (take (2 * length K.gates) g)
         → ended r left ≡ after l (reached w)
@@ -121,8 +121,8 @@ module _ (l : Lent) (p : Tested l) where
         let top-is : (length l.inputs + length l.states + length w.made) % 2 ^ 32 ≡ length l.inputs + length
         (images_in w.images l.nexts) + length w.made
         = omega (arith, images_length w.images l.nexts, agr.latches, few, sizes) in
-        let answer-is : made_with (length l.inputs + length l.states) (length w.made) ≡ Renumbered (summary_of (ordered_of K w))
-        = ap₂ {C = Answer} (λ (x y : ℕ). Renumbered (record { made = x; top = variable y })) made-is top-is in
+        let answer-is : made_with (length l.inputs + length l.states) (length w.made) ≡ Ok (summary_of (ordered_of K w))
+        = ap₂ {C = Answer} (λ (x y : ℕ). Ok (record { made = x; top = variable y })) made-is top-is in
         let long : length (pair_words w.made ++ zeros rest) ≡ 2 * length K.gates
         = omega (arith, length-append (pair_words w.made) (zeros rest), length-replicate {A = ℕ} rest 0, pairs_length w.made, few) in
         rw er
@@ -147,7 +147,7 @@ module _ (l : Lent) (p : Tested l) where
     unfolding ended after
     refuses why e er =
         rw (er, late l p why (subst (Answered K) e (answer l p)))
-        (outcome_eq (Refused why) (fill_is no_image (map_words K) m l.map (omega (arith, room.map, em)) em k.past_map)
+        (outcome_eq (Err why) (fill_is no_image (map_words K) m l.map (omega (arith, room.map, em)) em k.past_map)
         (fill_is 0 (length l.states) l.next_images l.next_images room.nexts refl refl)
         (fill_is 0 (length l.states) l.reset_images l.reset_images room.resets refl refl)
         (fill_is 0 (length l.roots) l.root_images l.root_images room.roots refl refl)

@@ -1,10 +1,10 @@
 -- The table of definitions finds what checks 5 and 6 find: a variable is marked exactly where it has been seen. Where both pass, the table gives each
 -- variable the gate that defines it. Assumes nothing.
+use Rattle.std.specs.Prelude.{Option, Some, None, Err}
 use Prim.Native.Nat.{ℕ, zero, suc, ◌+◌, ◌-◌, ◌<◌, ◌≤◌}
 use mathlib.Core.Path.{◌≡◌, refl, sym, ap, ◌∙◌, subst, subst⁻¹}
 use mathlib.Core.Logic.{◌⊎◌, inl, inr, ◌≢◌}
 use mathlib.Core.Bool.{Bool, true, false, not, cond, ◌||◌}
-use mathlib.Core.Option.{Option, none, some}
 use mathlib.Core.List.{List, [], ◌∷◌, ◌++◌, map}
 use native.Mathlib.Omega.{arith}
 use lib.Dec.{eqb, ltb}
@@ -22,12 +22,7 @@ use Rattle.circuit.specs.Outcome.{zeros}
 use Rattle.circuit.proofs.Tests.{Same, same, other, same_test, AtMost, at_most, above, le_test, last_or}
 use Rattle.circuit.proofs.Lists.{In-getD}
 use Rattle.circuit.proofs.Graph.{GateFound, a_gate, gate_found, gate_for_of}
-use Rattle.checks.specs.declared.Found.{Found}
-use Rattle.checks.specs.declared.Found.TheVariants as F
-use Rattle.checks.specs.declared.Check.{Check}
-use Rattle.checks.specs.declared.Check.TheVariants.{Passed, Failed}
-use Rattle.checks.specs.Checks.{fail_at}
-use Rattle.aig.specs.declared.table.GateNumber.TheVariants as N
+use Rattle.checks.specs.Checks.{Check, passed, fail_at}
 use Rattle.aig.specs.Table.{gate_at, Tells, Tabled, Codes}
 use Rattle.defs.specs.Define.{no_gate, Defined, judge_again, tabled, define_at, and_then, define_sources, define_gates, Judged, judged, judge, define_all}
 use Rattle.defs.proofs.Definitions.{mark-is}
@@ -108,11 +103,11 @@ module _ (gs : List Gate) (words : ℕ) where
           omega arith
 
 -- what a table was told of a list, and what the check says of it
-abbrev SayOf : (List ℕ → Type 0) → List ℕ → Found → Option ℕ → Type 0
-SayOf P w F.Nothing none = P w
-SayOf P w F.Nothing (some d) = ⊥
-SayOf P w (F.Literal l) none = ⊥
-SayOf P w (F.Literal l) (some d) = l ≡ literal d
+abbrev SayOf : (List ℕ → Type 0) → List ℕ → (Option Lit) → Option ℕ → Type 0
+SayOf P w None None = P w
+SayOf P w None (Some d) = ⊥
+SayOf P w (Some l) None = ⊥
+SayOf P w (Some l) (Some d) = l ≡ literal d
 
 abbrev Say : (List ℕ → Type 0) → Defined → Option ℕ → Type 0
 Say P D o = SayOf P D.words D.again o
@@ -131,8 +126,8 @@ module _ (gs : List Gate) (words : ℕ) where
           → (get_or t (var d) 0 ≡ 0 → Say (λ w. Known gs words n (seen_after seen (d ∷ ds)) w) (define_sources (set t (var d) 1) ds)
           (first_again (var d ∷ seen) ds))
           → Say (λ w. Known gs words n (seen_after seen (d ∷ ds)) w)
-          (and_then (cond b (tabled (set t (var d) 1) F.Nothing) (tabled t (F.Literal (literal d)))) (λ w. define_sources w ds))
-          (cond (not b) (some d) (first_again (var d ∷ seen) ds))
+          (and_then (cond b (tabled (set t (var d) 1) None) (tabled t (Some (literal d)))) (λ w. define_sources w ds))
+          (cond (not b) (Some d) (first_again (var d ∷ seen) ds))
       go true (same e) rec = rec e
       go false (other z) rec = refl
 
@@ -160,36 +155,36 @@ module _ (gs : List Gate) (words : ℕ) where
           → (get_or t (out_var g) 0 ≡ 0 → Say (λ w. Known gs words (length gs) (seen_after seen (g.output ∷ map (λ x. x.output) hs)) w)
           (define_gates (set t (out_var g) (n + 2)) hs (n + 1)) (first_again (out_var g ∷ seen) (map (λ x. x.output) hs)))
           → Say (λ w. Known gs words (length gs) (seen_after seen (g.output ∷ map (λ x. x.output) hs)) w)
-          (and_then (cond b (tabled (set t (out_var g) (n + 2)) F.Nothing) (tabled t (F.Literal (literal g.output))))
+          (and_then (cond b (tabled (set t (out_var g) (n + 2)) None) (tabled t (Some (literal g.output))))
           (λ w. define_gates w hs (n + 1)))
-          (cond (not b) (some g.output) (first_again (out_var g ∷ seen) (map (λ x. x.output) hs)))
+          (cond (not b) (Some g.output) (first_again (out_var g ∷ seen) (map (λ x. x.output) hs)))
       go true (same z) rec = rec z
       go false (other z) rec = refl
 
 -- checks one after another
 abbrev JudgeOf : (List ℕ → Type 0) → Judged → Check → Type 0
-JudgeOf P J check = (J.said ≡ check) × (J.said ≡ Passed → P J.words)
+JudgeOf P J check = (J.said ≡ check) × (J.said ≡ passed → P J.words)
 
 judge_say : (why : Lit → Refusal) (P Q : List ℕ → Type 0) (D : Defined) (o : Option ℕ) (k : List ℕ → Judged) (next : Check) → Say P D o
     → ((w : List ℕ) → P w → JudgeOf Q (k w) next) → JudgeOf Q (judge why D k) (fail_at o why next)
 judge_say why P Q D o k next s f = go D.again o s
   where
-    go : (a : Found) (o : Option ℕ) → SayOf P D.words a o → JudgeOf Q (judge_again why D.words a (k D.words)) (fail_at o why next)
-    go F.Nothing none p = f D.words p
-    go F.Nothing (some d) p = absurd p
-    go (F.Literal l) none p = absurd p
-    go (F.Literal l) (some d) p = (ap (λ (x : Lit). Failed (why x)) p, λ e. absurd (let z : ◌≡◌ {A = ℕ} 0 1 = cc in omega arith))
+    go : (a : (Option Lit)) (o : Option ℕ) → SayOf P D.words a o → JudgeOf Q (judge_again why D.words a (k D.words)) (fail_at o why next)
+    go None None p = f D.words p
+    go None (Some d) p = absurd p
+    go (Some l) None p = absurd p
+    go (Some l) (Some d) p = (ap (λ (x : Lit). Err (why x)) p, λ e. absurd (let z : ◌≡◌ {A = ℕ} 0 1 = cc in omega arith))
 
 fail_at_twice : (a b : Option ℕ) (why : Lit → Refusal) (next : Check) → fail_at a why (fail_at b why next) ≡ fail_at (or_else a b) why next
-fail_at_twice none b why next = refl
-fail_at_twice (some d) b why next = refl
+fail_at_twice None b why next = refl
+fail_at_twice (Some d) b why next = refl
 
 again_append : (seen xs ys : List ℕ) → first_again seen (xs ++ ys) ≡ or_else (first_again seen xs) (first_again (seen_after seen xs) ys)
 again_append seen [] ys = refl
 again_append seen (x ∷ xs) ys = go (elem (var x) seen) (again_append (var x ∷ seen) xs ys)
   where
     go : (b : Bool) → first_again (var x ∷ seen) (xs ++ ys) ≡ or_else (first_again (var x ∷ seen) xs) (first_again (seen_after (var x ∷ seen) xs) ys)
-        → cond b (some x) (first_again (var x ∷ seen) (xs ++ ys)) ≡ or_else (cond b (some x) (first_again (var x ∷ seen) xs))
+        → cond b (Some x) (first_again (var x ∷ seen) (xs ++ ys)) ≡ or_else (cond b (Some x) (first_again (var x ∷ seen) xs))
         (first_again (seen_after (var x ∷ seen) xs) ys)
     go true e = refl
     go false e = e
@@ -259,13 +254,13 @@ known_tabled G words seen t once k v h = go (ltb (get_or t v 0) 2) (le_test (suc
     place g (x ∷ gs) (inl e) = (0, omega arith, sym e)
     place g (x ∷ gs) (inr m) = let r = place g gs m in (suc r.0, omega (arith, r.1), r.2)
 
-    nothing : get_or t v 0 < 2 → (o : Option Gate) → GateFound G.gates v o → o ≡ none
-    nothing low none f = refl
-    nothing low (some g) (a_gate g' m e) =
+    nothing : get_or t v 0 < 2 → (o : Option Gate) → GateFound G.gates v o → o ≡ None
+    nothing low None f = refl
+    nothing low (Some g) (a_gate g' m e) =
         let r = place g' G.gates m in
         absurd (omega (arith, k.there r.0 r.1, ap (λ (x : Gate). get_or t (out_var x) 0) r.2, ap (λ (u : ℕ). get_or t u 0) e))
 
-    go : (b : Bool) → AtMost (suc (get_or t v 0)) 2 b → Tells G.gates v (cond b N.Nothing (N.Number (get_or t v 0 - 2)))
+    go : (b : Bool) → AtMost (suc (get_or t v 0)) 2 b → Tells G.gates v (cond b None (Some (get_or t v 0 - 2)))
     go true (at_most low) = nothing (omega arith) (gate_for G.gates v) (gate_found G.gates v)
     go false (above high) =
         let r = k.right v (omega arith) in
@@ -294,22 +289,22 @@ module _ (inputs states : List ℕ) (gs : List Gate) (words : ℕ) (some' : 0 < 
 
   -- what the states' part, and the gates' part before it, say
   abbrev lastly : Check
-  lastly = fail_at (first_again seen_gates states) StateAgain Passed
+  lastly = fail_at (first_again seen_gates states) StateAgain passed
 
   abbrev nextly : Check
   nextly = fail_at (first_again seen_inputs outs) Again lastly
 
-  by_states : (t : List ℕ) → Known gs words (length gs) seen_gates t → JudgeOf Ends (judge StateAgain (define_sources t states) (λ t₃. judged t₃ Passed)) lastly
+  by_states : (t : List ℕ) → Known gs words (length gs) seen_gates t → JudgeOf Ends (judge StateAgain (define_sources t states) (λ t₃. judged t₃ passed)) lastly
   by_states t k =
       judge_say StateAgain (Known gs words (length gs) (seen_after seen_gates states)) Ends (define_sources t states) (first_again seen_gates states)
-      (λ t₃. judged t₃ Passed) Passed
+      (λ t₃. judged t₃ passed) passed
       (sources_say gs words states k codes_s) (λ w k₃. (refl, λ e. (seen_after seen_gates states, k₃)))
 
   by_gates : (t : List ℕ) → Known gs words 0 seen_inputs t
-      → JudgeOf Ends (judge Again (define_gates t gs 0) (λ t₂. judge StateAgain (define_sources t₂ states) (λ t₃. judged t₃ Passed))) nextly
+      → JudgeOf Ends (judge Again (define_gates t gs 0) (λ t₂. judge StateAgain (define_sources t₂ states) (λ t₃. judged t₃ passed))) nextly
   by_gates t k =
       judge_say Again (Known gs words (length gs) seen_gates) Ends (define_gates t gs 0) (first_again seen_inputs outs)
-      (λ t₂. judge StateAgain (define_sources t₂ states) (λ t₃. judged t₃ Passed)) lastly
+      (λ t₂. judge StateAgain (define_sources t₂ states) (λ t₃. judged t₃ passed)) lastly
       (gates_say gs words few gs 0 all (λ j h. ap (λ (i : ℕ). get_or gs i no_gate) (from j)) k codes_g)
       by_states
     where
@@ -323,7 +318,7 @@ module _ (inputs states : List ℕ) (gs : List Gate) (words : ℕ) (some' : 0 < 
   unfolding define_all
   in_turn =
       judge_say Again (Known gs words 0 seen_inputs) Ends (define_sources (set (zeros words) 0 1) inputs) (first_again (0 ∷ []) inputs)
-      (λ t₁. judge Again (define_gates t₁ gs 0) (λ t₂. judge StateAgain (define_sources t₂ states) (λ t₃. judged t₃ Passed))) nextly
+      (λ t₁. judge Again (define_gates t₁ gs 0) (λ t₂. judge StateAgain (define_sources t₂ states) (λ t₃. judged t₃ passed))) nextly
       (sources_say gs words inputs (start_known gs words some') codes_i) by_gates
 
   same_six : first_again seen_gates states ≡ six
@@ -332,11 +327,11 @@ module _ (inputs states : List ℕ) (gs : List Gate) (words : ℕ) (some' : 0 < 
       (λ v. ap (elem v) (sym (seen-append (0 ∷ []) inputs outs)) ∙ seen-elem (0 ∷ []) (inputs ++ outs) v
       ∙ or_swap (eqb v 0) (elem v (map var (inputs ++ outs))))
 
-  judged_as : JudgeOf Ends (define_all (zeros words) inputs states gs) (fail_at five Again (fail_at six StateAgain Passed))
+  judged_as : JudgeOf Ends (define_all (zeros words) inputs states gs) (fail_at five Again (fail_at six StateAgain passed))
   judged_as = (
     in_turn.0 ∙ fail_at_twice (first_again (0 ∷ []) inputs) (first_again seen_inputs outs) Again lastly
         ∙ ap (λ (o : Option ℕ). fail_at o Again lastly) (sym (again_append (0 ∷ []) inputs outs))
-        ∙ ap (λ (o : Option ℕ). fail_at five Again (fail_at o StateAgain Passed)) same_six,
+        ∙ ap (λ (o : Option ℕ). fail_at five Again (fail_at o StateAgain passed)) same_six,
     in_turn.1,
   )
 
@@ -345,11 +340,11 @@ module _ (inputs states : List ℕ) (gs : List Gate) (words : ℕ) (some' : 0 < 
 
   module _ (t : List ℕ) (r : Check) (e : judged t r ≡ define_all (zeros words) inputs states gs) where
     -- what the code is told is what the checks say
-    pub defines : r ≡ fail_at five Again (fail_at six StateAgain Passed)
+    pub defines : r ≡ fail_at five Again (fail_at six StateAgain passed)
     defines = ap (λ (J : Judged). J.said) e ∙ judged_as.0
 
     -- and where they pass, the table is right
-    pub tables : r ≡ Passed → DefinedOnce G → Tabled gs t
+    pub tables : r ≡ passed → DefinedOnce G → Tabled gs t
     tables p once =
         let k = judged_as.1 (sym (ap (λ (J : Judged). J.said) e) ∙ p) in
         known_tabled G words k.0 t once (subst (Known gs words (length gs) k.0) (sym (ap (λ (J : Judged). J.words) e)) k.1)

@@ -1,7 +1,7 @@
 -- The search for a gate made, on the lent words. Assumes nothing.
+use Rattle.std.specs.Prelude.{Some}
 use Prim.Native.Nat.{ℕ, suc, ◌+◌, ◌-◌, ◌*◌, ◌/◌, ◌%◌, ◌^◌, ◌<◌, ◌≤◌}
 use mathlib.Core.Path.{◌≡◌, sym, ◌∙◌, ap, ap₂, subst}
-use mathlib.Core.Logic.{◌≢◌}
 use mathlib.Core.Bool.{Bool, true, false, ◌&&◌}
 use mathlib.Core.List.{List}
 use native.Mathlib.Omega.{arith}
@@ -16,7 +16,6 @@ use Rattle.circuit.proofs.Words.{pairs_length, pairs_larger, pairs_smaller}
 use Rattle.circuit.proofs.Tests.{Same, same, other, same_test}
 use Rattle.aig.specs.declared.shape.Shape.{Shape}
 use Rattle.fold.specs.declared.Pair as fold
-use Rattle.fold.specs.declared.Already.TheVariants.{Code}
 use Rattle.aig.specs.declared.trie.Search.TheVariants.{Found, Free}
 use Rattle.aig.specs.Layout.{links_at, links_size, links_of}
 use Rattle.fold.specs.Fold.{already_of}
@@ -25,7 +24,7 @@ use Rattle.aig.specs.Already as already
 use Rattle.aig.specs.Trie.{larger_of, smaller_of, head_of, key_of, key_bits, link_at, Trie, Fresh}
 use Rattle.aig.specs.Store.{larger_at, smaller_at, pair_at, code_at, MadeIn}
 use Rattle.aig.proofs.Parts.{part_at, part_length}
-use Rattle.aig.proofs.Branching.{before_none, before_some, way_within, Sought, sought_start, sought_inside, sought_on, sought_all, sought_none}
+use Rattle.aig.proofs.Branching.{before_none, before_some, way_within, Sought, sought_inside, sought_on, sought_all, sought_none}
 
 module _ (s : Shape) (made : List Pair) (out scratch : List ℕ) (m : MadeIn s made out scratch) where
   pub out_length : length out ≡ 2 * s.gates
@@ -82,22 +81,6 @@ pub record Seeking (s : Shape) (p : fold.Pair) (made : List Pair) (out scratch :
 head_low : (s : Shape) (p : fold.Pair) → p.larger.0 < 2 * s.vars → head_of (codes p) < s.vars
 head_low s p h = omega arith
 
-pub seek_start : {s : Shape} {made : List Pair} {out scratch : List ℕ} (p : fold.Pair) → s.hash ≡ true → p.larger.0 < 2 * s.vars
-    → p.smaller.0 < 2 * s.vars → MadeIn s made out scratch → {left place : ℕ} → left ≡ key_of (codes p)
-    → place ≡ links_at s + head_of (codes p) → Seeking s p made out scratch 0 left place
-seek_start {s} {made} {out} {scratch} p on larger smaller m e f =
-    record {
-      on = on;
-      larger = larger;
-      smaller = smaller;
-      made_in = m;
-      at = head_of (codes p);
-      is = f;
-      sought =
-          subst (λ (x : ℕ). Sought s.vars made (links_of s scratch) (codes p) 0 x (head_of (codes p))) (sym e)
-          (sought_start (m.trie on) (codes p) (head_low s p larger));
-    }
-
 module _ {s : Shape} {p : fold.Pair} {made : List Pair} {out scratch : List ℕ} {d left place : ℕ} (q : Seeking s p made out scratch d left place) where
   abbrev m : MadeIn s made out scratch
   m = q.made_in
@@ -121,10 +104,10 @@ module _ {s : Shape} {p : fold.Pair} {made : List Pair} {out scratch : List ℕ}
   word_there : get_or (links_of s scratch) q.at 0 ≡ get_or scratch place 0
   word_there = part_at (links_at s) (links_size s) scratch q.at at_within ∙ ap (λ (i : ℕ). get_or scratch i 0) (sym q.is)
 
-  -- k is the word that was read
-  pub seek_free : {k : ℕ} → k ≡ get_or scratch place 0 → k ≡ 0 → Says s made p scratch (already.made_before s made p) (Free place)
-  seek_free e z =
-      let empty : get_or (links_of s scratch) q.at 0 ≡ 0 = word_there ∙ sym e ∙ z in
+  -- no gate is in the place, or gate k
+  pub seek_free : get_or scratch place 0 ≡ 0 → Says s made p scratch (already.made_before s made p) (Free place)
+  seek_free e =
+      let empty : get_or (links_of s scratch) q.at 0 ≡ 0 = word_there ∙ e in
       let fresh : Fresh made (codes p) = sought_none trie (codes p) low d left q.at q.sought empty in (
         ap already_of (sym (before_none made (first_code s.sources) p.larger.0 p.smaller.0 fresh)),
         λ on.
@@ -142,44 +125,44 @@ module _ {s : Shape} {p : fold.Pair} {made : List Pair} {out scratch : List ℕ}
             },
       )
 
-  module _ {k : ℕ} (e : k ≡ get_or scratch place 0) (n : k ≢ 0) where
-    gate_there : get_or (links_of s scratch) q.at 0 ≡ suc (k - 1)
-    gate_there = omega (arith, word_there)
+  module _ {k : ℕ} (e : get_or scratch place 0 ≡ suc k) where
+    gate_there : get_or (links_of s scratch) q.at 0 ≡ suc k
+    gate_there = word_there ∙ e
 
-    seek_below : k - 1 < length made
-    seek_below = sought_inside trie (codes p) low d left q.at q.sought (k - 1) gate_there
+    seek_below : k < length made
+    seek_below = sought_inside trie (codes p) low d left q.at q.sought k gate_there
 
-    pub seek_low : k - 1 ≤ 1048576
+    pub seek_low : k ≤ 1048576
     seek_low = omega (arith, seek_below, m.fits, m.room.gates)
 
-    pub seek_inside : smaller_at (k - 1) < length out
+    pub seek_inside : smaller_at k < length out
     seek_inside = omega (arith, out_length s made out scratch m, seek_below, m.fits)
 
-    -- gate k - 1 has the pair
-    its_code : (t : Lit) → (larger_of made (k - 1) ≡ p.larger.0) × (smaller_of made (k - 1) ≡ p.smaller.0) → t ≡ code_at s (k - 1)
+    -- gate k has the pair
+    its_code : (t : Lit) → (larger_of made k ≡ p.larger.0) × (smaller_of made k ≡ p.smaller.0) → t ≡ code_at s k
         → Says s made p scratch (already.made_before s made p) (Found t)
     its_code t z c =
-        ap Code c
-        ∙ ap already_of (sym (before_some made (first_code s.sources) p.larger.0 p.smaller.0 (k - 1) seek_below z.0 z.1 trie.once))
+        ap Some c
+        ∙ ap already_of (sym (before_some made (first_code s.sources) p.larger.0 p.smaller.0 k seek_below z.0 z.1 trie.once))
 
-    pub seek_last : {t : Lit} → d ≡ key_bits → t ≡ code_at s (k - 1) → Says s made p scratch (already.made_before s made p) (Found t)
-    seek_last {t} a c = its_code t (sought_all trie (codes p) low d left q.at q.sought (k - 1) gate_there a key_low) c
+    pub seek_last : {t : Lit} → d ≡ key_bits → t ≡ code_at s k → Says s made p scratch (already.made_before s made p) (Found t)
+    seek_last {t} a c = its_code t (sought_all trie (codes p) low d left q.at q.sought k gate_there a key_low) c
 
-    -- b says whether gate k - 1 has it
-    module _ {b : Bool} (f : b ≡ pair_at out (k - 1) p) where
-      pub seek_hit : {t : Lit} → b ≡ true → t ≡ code_at s (k - 1) → Says s made p scratch (already.made_before s made p) (Found t)
-      seek_hit {t} h c = its_code t (is_pair s made out scratch m p (k - 1) seek_below (sym f ∙ h)) c
+    -- b says whether gate k has it
+    module _ {b : Bool} (f : b ≡ pair_at out k p) where
+      pub seek_hit : {t : Lit} → b ≡ true → t ≡ code_at s k → Says s made p scratch (already.made_before s made p) (Found t)
+      seek_hit {t} h c = its_code t (is_pair s made out scratch m p k seek_below (sym f ∙ h)) c
 
-      pub seek_on : {place' : ℕ} → b ≡ false → place' ≡ links_at s + link_at s.vars (left % 2) (k - 1) → Seeking s p made out scratch (d + 1) (left / 2) place'
+      pub seek_on : {place' : ℕ} → b ≡ false → place' ≡ links_at s + link_at s.vars (left % 2) k → Seeking s p made out scratch (d + 1) (left / 2) place'
       seek_on h c =
           record {
             on = q.on;
             larger = q.larger;
             smaller = q.smaller;
             made_in = m;
-            at = link_at s.vars (left % 2) (k - 1);
+            at = link_at s.vars (left % 2) k;
             is = c;
             sought =
-                subst (λ (i : ℕ). Sought s.vars made (links_of s scratch) (codes p) i (left / 2) (link_at s.vars (left % 2) (k - 1))) (sym (add-one d))
-                (sought_on trie (codes p) low d left q.at q.sought (k - 1) gate_there (not_pair s made out scratch m p (k - 1) seek_below (sym f ∙ h)));
+                subst (λ (i : ℕ). Sought s.vars made (links_of s scratch) (codes p) i (left / 2) (link_at s.vars (left % 2) k)) (sym (add-one d))
+                (sought_on trie (codes p) low d left q.at q.sought k gate_there (not_pair s made out scratch m p k seek_below (sym f ∙ h)));
           }

@@ -1,9 +1,9 @@
 -- Settling a gate on the lent lists does what it does to the work: the map gets the output's code, and a gate made stands after the others and in a
 -- place of the trie that was free. Assumes nothing.
+use Rattle.std.specs.Prelude.{Option, Some, None}
 use Prim.Native.Nat.{ℕ, suc, ◌+◌, ◌*◌, ◌-◌, ◌^◌, ◌<◌}
 use mathlib.Core.Path.{◌≡◌, refl, sym, ◌∙◌, ap, ap₂, subst}
 use mathlib.Core.Bool.{Bool, true, false}
-use mathlib.Core.Option.{Option, none, some}
 use mathlib.Core.List.{List, [], ◌∷◌, ◌++◌, append_assoc}
 use native.Mathlib.Omega.{arith}
 use native.Mathlib.Numerals.{add-one}
@@ -26,7 +26,6 @@ use Rattle.aig.specs.Layout.{links_at, links_size, stack_at, stack_size, table_o
 use Rattle.aig.specs.Trie.{head_of, key_of, key_bits, Trie, FreeAt, linked}
 use Rattle.aig.specs.declared.trie.Search.{Search}
 use Rattle.aig.specs.declared.trie.Search.TheVariants.{Found, Free}
-use Rattle.fold.specs.declared.Already.TheVariants.{Code, New}
 use Rattle.aig.specs.Already.{codes, FreeIn, Says}
 use Rattle.aig.specs.Store.{with_gate, MadeIn}
 use Rattle.aig.specs.Settle.{Left, numbers, linked_if, settled}
@@ -169,9 +168,9 @@ module _ (N : Net) {s : Shape} (counted : s.sources ≡ source_count N) {gates :
   pub settles : (o : Option ℕ) (a : Search) → Says s w.made p scratch o a
       → Settles s gates n.depth fs (settle_as N w d.0 p.larger.0 p.smaller.0 o) (settled s n d p map out scratch a)
   unfolding settle_as
-  settles (some t) (Found u) e =
+  settles (Some t) (Found u) e =
       let same : u ≡ literal t = cc in
       subst (λ (x : Lit). Settles s gates n.depth fs (mapped t) (settled s n d p map out scratch (Found x))) (sym same) (settles_old t)
-  settles none (Found u) e = absurd (let f : Code u ≡ New = e in let x : ◌≡◌ {A = ℕ} 0 1 = cc in omega arith)
-  settles (some t) (Free place) e = absurd (let f : New ≡ Code (literal t) = e.0 in let x : ◌≡◌ {A = ℕ} 0 1 = cc in omega arith)
-  settles none (Free place) e = settles_new place e.1
+  settles None (Found u) e = absurd (let f : Some u ≡ None = e in let x : ◌≡◌ {A = ℕ} 0 1 = cc in omega arith)
+  settles (Some t) (Free place) e = absurd (let f : None ≡ Some (literal t) = e.0 in let x : ◌≡◌ {A = ℕ} 0 1 = cc in omega arith)
+  settles None (Free place) e = settles_new place e.1

@@ -1,11 +1,12 @@
 -- Literals walked in turn: a walk of one leaves the others waiting, so lists are walked literal by literal, and lists one after another. Assumes nothing.
-use Prim.Native.Nat.{ℕ, zero, suc, ◌+◌, ◌-◌, ◌%◌, ◌<◌, ◌≤◌}
+use Rattle.std.specs.Prelude.{Result, Ok, Err}
+use Prim.Native.Nat.{ℕ, suc, ◌+◌, ◌%◌, ◌<◌}
 use mathlib.Core.Path.{◌≡◌, refl, sym, ◌∙◌, ap, subst}
 use mathlib.Core.Bool.{Bool, true, false, cond}
 use mathlib.Core.List.{List, [], ◌∷◌, ◌++◌, append_assoc}
 use native.Mathlib.Omega.{arith}
-use lib.ListN.{length, get_or, take, length-append, get_or-append}
-use lib.Seq.{get_or-append-add, take-length}
+use lib.ListN.{length, length-append, get_or-append}
+use lib.Seq.{get_or-append-add}
 use Rattle.lit.specs.Code.{var, literal}
 use Rattle.lit.specs.declared.Lit.{Lit}
 use Rattle.circuit.specs.declared.Refusal.{Refusal}
@@ -15,13 +16,10 @@ use Rattle.aig.specs.declared.shape.Shape.{Shape}
 use Rattle.aig.specs.declared.walk.Walk.{Walk}
 use Rattle.aig.specs.declared.walk.State.{State}
 use Rattle.aig.specs.declared.walk.State.TheVariants.{Transfer}
-use Rattle.ending.specs.declared.Walked.{Walked}
-use Rattle.ending.specs.declared.Walked.TheVariants.{Reached, Stopped}
 use Rattle.aig.specs.Settle.{numbers}
-use Rattle.aig.specs.Going.{net_of, top_of, Going, Long}
+use Rattle.aig.specs.Going.{net_of, top_of, Going}
 use Rattle.aig.specs.Turns.{Walking, Ended, Runs}
 use Rattle.aig.specs.Walks.{Waiting, Waits, AllInside, CanGoOn, GoesOn, CanWalk, Walks, outputs_of, every_from, turns}
-use Rattle.aig.proofs.Standing.{lists_long}
 
 module _ {s : Shape} {sources gates : List ℕ} {o : Out} {made : ℕ} {c : ℕ} {rest images out scratch : List ℕ}
     (w : Waiting s sources gates o made (c ∷ rest) images out scratch) where
@@ -49,27 +47,11 @@ module _ {s : Shape} {sources gates : List ℕ} {o : Out} {made : ℕ} {c : ℕ}
   unfolding walk_all
   goes_on v e = ap (λ (x : Out). and_then x (λ w'. walk_all (net_of s sources gates) (stack_room (net_of s sources gates)) rest w')) e ∙ w.comes
 
-  ends_in_lem : (r : Walked) (images' out' scratch' : List ℕ) → Ended s sources gates first r images' out' scratch'
+  ends_in_lem : (r : Result ℕ Refusal) (images' out' scratch' : List ℕ) → Ended s sources gates first r images' out' scratch'
       → Waits s sources gates o rest r images' out' scratch'
-  ends_in_lem (Reached made') images' out' scratch' d =
+  ends_in_lem (Ok made') images' out' scratch' d =
       record { ground = w.ground; work = d.work; holds = d.holds; inv = d.inv; comes = goes_on (reached d.work) d.comes }
-  ends_in_lem (Stopped why) images' out' scratch' d = record { long = d.long; comes = goes_on (stopped why) d.comes }
-
--- every step-th literal of a list
-every_next : (step i : ℕ) (l : List ℕ) → 0 < step → i < length l → every_from step i l ≡ get_or l i 0 ∷ every_from step (i + step) l
-every_next zero i l p h = absurd (omega arith)
-every_next (suc n) i [] p h = absurd (omega arith)
-every_next (suc n) zero (x ∷ xs) p h =
-    let e : 0 + suc n ≡ suc (suc n - 1) = omega arith in
-    ap (λ (j : ℕ). x ∷ every_from (suc n) j (x ∷ xs)) (sym e)
-every_next (suc n) (suc i) (x ∷ xs) p h =
-    let e : suc i + suc n ≡ suc (i + suc n) = omega arith in
-    every_next (suc n) i xs p (omega arith) ∙ ap (λ (j : ℕ). get_or xs i 0 ∷ every_from (suc n) j (x ∷ xs)) (sym e)
-
-every_end : (step i : ℕ) (l : List ℕ) → length l ≤ i → every_from step i l ≡ []
-every_end step i [] h = refl
-every_end step zero (x ∷ xs) h = absurd (omega arith)
-every_end step (suc i) (x ∷ xs) h = every_end step i xs (omega arith)
+  ends_in_lem (Err why) images' out' scratch' d = record { long = d.long; comes = goes_on (stopped why) d.comes }
 
 -- with step 1 all of them
 every_one : (l : List ℕ) → every_from 1 0 l ≡ l
@@ -83,44 +65,27 @@ every_third (o ∷ []) h = absurd (omega arith)
 every_third (o ∷ a ∷ []) h = absurd (omega arith)
 every_third (o ∷ a ∷ b ∷ rest) h = ap (λ (r : List ℕ). o ∷ r) (every_third rest (omega arith))
 
-waits_long : (s : Shape) (sources gates : List ℕ) (o : Out) (cs : List ℕ) (r : Walked) (images out scratch : List ℕ)
-    → Waits s sources gates o cs r images out scratch
-    → Long s images out scratch
-waits_long s sources gates o cs (Reached made) images out scratch w = lists_long w.ground w.holds w.inv
-waits_long s sources gates o cs (Stopped why) images out scratch w = w.long
+-- of the codes cs₀, which were to be walked, cs are still to be walked
+pub record Listing (s : Shape) (gates cs₀ : List ℕ) (before : ℕ) (images₀ out₀ scratch₀ cs : List ℕ) (made : ℕ) (images out scratch : List ℕ) : Type 0 where
+  pub inside : AllInside s cs
+  pub start : CanWalk s gates before cs₀ images₀ out₀ scratch₀
+  pub same : (sources : List ℕ) (o : Out) (rest : List ℕ) → Waiting s sources gates o before (cs₀ ++ rest) images₀ out₀ scratch₀
+      → Waiting s sources gates o made (cs ++ rest) images out scratch
 
--- a list that is walked up to place i
-pub record Listing (s : Shape) (gates lits : List ℕ) (step : ℕ) (from : Walked) (images₀ out₀ scratch₀ : List ℕ) (i : ℕ) (end : Walked)
-    (images out scratch : List ℕ)
-    : Type 0 where
-  pub some : 0 < step
-  pub inside : AllInside s (every_from step i lits)
-  pub start : CanGoOn s gates (every_from step 0 lits) from images₀ out₀ scratch₀
-  pub same : (sources : List ℕ) (o : Out) (rest : List ℕ) → Waits s sources gates o (every_from step 0 lits ++ rest) from images₀ out₀ scratch₀
-      → Waits s sources gates o (every_from step i lits ++ rest) end images out scratch
-
-module _ {s : Shape} {gates lits : List ℕ} {step : ℕ} {from : Walked} {images₀ out₀ scratch₀ : List ℕ} where
-  pub listing_start : 0 < step → CanGoOn s gates (every_from step 0 lits) from images₀ out₀ scratch₀
-      → Listing s gates lits step from images₀ out₀ scratch₀ 0 from images₀ out₀ scratch₀
-  listing_start p k = record { some = p; inside = k.inside; start = k; same = λ sources o rest w. w }
-
-  module _ {i : ℕ} {end : Walked} {images out scratch : List ℕ} (k : Listing s gates lits step from images₀ out₀ scratch₀ i end images out scratch) where
-    -- the literal at place i is walked next
-    module _ {made : ℕ} {n : Walk} {l : Lit} (q : end ≡ Reached made) (h : i < length lits) (e : n ≡ numbers 0 made) (f : l ≡ literal (get_or lits i 0)) where
-      next : every_from step i lits ≡ get_or lits i 0 ∷ every_from step (i + step) lits
-      next = every_next step i lits k.some h
-
-      is_next : Transfer (numbers 0 made) (literal (get_or lits i 0)) ≡ Transfer n l
+module _ {s : Shape} {gates cs₀ : List ℕ} {before : ℕ} {images₀ out₀ scratch₀ : List ℕ} where
+  module _ {cs : List ℕ} {made : ℕ} {images out scratch : List ℕ} (k : Listing s gates cs₀ before images₀ out₀ scratch₀ cs made images out scratch) where
+    -- the code c is walked next, and then the codes left
+    module _ {c : ℕ} {left : List ℕ} (next : cs ≡ c ∷ left) {n : Walk} {l : Lit} (e : n ≡ numbers 0 made) (f : l ≡ literal c) where
+      is_next : Transfer (numbers 0 made) (literal c) ≡ Transfer n l
       is_next = rw (e, f) refl
 
-      inside_next : AllInside s (get_or lits i 0 ∷ every_from step (i + step) lits)
+      inside_next : AllInside s (c ∷ left)
       inside_next = subst (AllInside s) next k.inside
 
-      waits_next : (sources : List ℕ) (o : Out) (rest : List ℕ) → Waits s sources gates o (every_from step 0 lits ++ rest) from images₀ out₀ scratch₀
-          → Waiting s sources gates o made (get_or lits i 0 ∷ (every_from step (i + step) lits ++ rest)) images out scratch
+      waits_next : (sources : List ℕ) (o : Out) (rest : List ℕ) → Waiting s sources gates o before (cs₀ ++ rest) images₀ out₀ scratch₀
+          → Waiting s sources gates o made (c ∷ (left ++ rest)) images out scratch
       waits_next sources o rest w =
-          subst (λ (x : Walked). Waits s sources gates o (get_or lits i 0 ∷ (every_from step (i + step) lits ++ rest)) x images out scratch) q
-          (subst (λ (cs : List ℕ). Waits s sources gates o (cs ++ rest) end images out scratch) next (k.same sources o rest w))
+          subst (λ (cs : List ℕ). Waiting s sources gates o made (cs ++ rest) images out scratch) next (k.same sources o rest w)
 
       pub listing_one : Walking s gates (Transfer n l) images out scratch
       listing_one =
@@ -128,46 +93,36 @@ module _ {s : Shape} {gates lits : List ℕ} {step : ℕ} {from : Walked} {image
           subst (λ (t : State). Walking s gates t images out scratch) is_next
           (record { sources = k.start.sources; o = first w; going = starts w (inside_next 0 (omega arith)) })
 
-      pub listing_on : (r : Walked) (images' out' scratch' : List ℕ) → Runs s gates (Transfer n l) images out scratch r images' out' scratch'
-          → Listing s gates lits step from images₀ out₀ scratch₀ (i + step) r images' out' scratch'
-      listing_on r images' out' scratch' runs =
-          record {
-            some = k.some;
-            inside = λ j p. inside_next (suc j) (omega arith);
-            start = k.start;
-            same =
-                λ sources o rest w₀.
-                let w = waits_next sources o rest w₀ in
-                ends_in_lem w r images' out' scratch'
-                (runs sources (first w)
-                (subst (λ (t : State). Going s sources gates (first w) t images out scratch) is_next (starts w (inside_next 0 (omega arith)))));
-          }
+      -- whatever comes of its walk
+      module _ (r : Result ℕ Refusal) (images' out' scratch' : List ℕ) (runs : Runs s gates (Transfer n l) images out scratch r images' out' scratch') where
+        walked_one : (sources : List ℕ) (o : Out) (rest : List ℕ) → Waiting s sources gates o before (cs₀ ++ rest) images₀ out₀ scratch₀
+            → Waits s sources gates o (left ++ rest) r images' out' scratch'
+        walked_one sources o rest w₀ =
+            let w = waits_next sources o rest w₀ in
+            ends_in_lem w r images' out' scratch'
+            (runs sources (first w)
+            (subst (λ (t : State). Going s sources gates (first w) t images out scratch) is_next (starts w (inside_next 0 (omega arith)))))
 
-    pub listing_stop : (why : Refusal) → end ≡ Stopped why → GoesOn s gates (every_from step 0 lits) from images₀ out₀ scratch₀ (Stopped why) images out scratch
-    listing_stop why q sources o rest w =
-        subst (λ (x : Walked). Waits s sources gates o (every_from step i lits ++ rest) x images out scratch) q (k.same sources o rest w)
+        pub listing_on : (made' : ℕ) → r ≡ Ok made' → Listing s gates cs₀ before images₀ out₀ scratch₀ left made' images' out' scratch'
+        listing_on made' q =
+            record {
+              inside = λ j p. inside_next (suc j) (omega arith);
+              start = k.start;
+              same =
+                  λ sources o rest w.
+                  subst (λ (x : Result ℕ Refusal). Waits s sources gates o (left ++ rest) x images' out' scratch') q (walked_one sources o rest w);
+            }
 
-    pub listing_end : length lits ≤ i → GoesOn s gates (every_from step 0 lits) from images₀ out₀ scratch₀ end images out scratch
+        pub listing_stop : (why : Refusal) → r ≡ Err why → (r' : Result ℕ Refusal) → r' ≡ Err why
+            → Walks s gates before cs₀ images₀ out₀ scratch₀ r' images' out' scratch'
+        listing_stop why q r' q' sources o rest w =
+            let stops : Waits s sources gates o rest (Err why) images' out' scratch' =
+            subst (λ (x : Result ℕ Refusal). Waits s sources gates o (left ++ rest) x images' out' scratch') q (walked_one sources o rest w) in
+            subst (λ (x : Result ℕ Refusal). Waits s sources gates o rest x images' out' scratch') (sym q') stops
+
+    pub listing_end : cs ≡ [] → Walks s gates before cs₀ images₀ out₀ scratch₀ (Ok made) images out scratch
     listing_end h sources o rest w =
-        subst (λ (cs : List ℕ). Waits s sources gates o (cs ++ rest) end images out scratch) (every_end step i lits h) (k.same sources o rest w)
-
-    -- the lists are as long as they were
-    long₀ : Long s images₀ out₀ scratch₀
-    long₀ = waits_long s k.start.sources gates k.start.o (every_from step 0 lits ++ k.start.rest) from images₀ out₀ scratch₀ k.start.waiting
-
-    long : Long s images out scratch
-    long =
-        waits_long s k.start.sources gates k.start.o (every_from step i lits ++ k.start.rest) end images out scratch
-        (k.same k.start.sources k.start.o k.start.rest k.start.waiting)
-
-    pub listing_map : length images ≡ length images₀
-    listing_map = long.of_map ∙ sym long₀.of_map
-
-    pub listing_out : length out ≡ length out₀
-    listing_out = long.of_out ∙ sym long₀.of_out
-
-    pub listing_scratch : length scratch ≡ length scratch₀
-    listing_scratch = long.of_scratch ∙ sym long₀.of_scratch
+        subst (λ (cs : List ℕ). Waiting s sources gates o made (cs ++ rest) images out scratch) h (k.same sources o rest w)
 
 -- two lists one after the other
 inside_left : (s : Shape) (a b : List ℕ) → AllInside s (a ++ b) → AllInside s a
@@ -176,7 +131,7 @@ inside_left s a b h i p = subst (λ (c : ℕ). var c < s.vars) (get_or-append a 
 inside_right : (s : Shape) (a b : List ℕ) → AllInside s (a ++ b) → AllInside s b
 inside_right s a b h i p = subst (λ (c : ℕ). var c < s.vars) (get_or-append-add a b i 0) (h (length a + i) (omega (arith, length-append a b)))
 
-module _ (s : Shape) (gates a b : List ℕ) (from : Walked) (images out scratch : List ℕ) where
+module _ (s : Shape) (gates a b : List ℕ) (from : Result ℕ Refusal) (images out scratch : List ℕ) where
   regroup : (sources : List ℕ) (o : Out) (rest : List ℕ) → Waits s sources gates o ((a ++ b) ++ rest) from images out scratch
       → Waits s sources gates o (a ++ (b ++ rest)) from images out scratch
   regroup sources o rest w = subst (λ (cs : List ℕ). Waits s sources gates o cs from images out scratch) (append_assoc a b rest) w
@@ -191,7 +146,7 @@ module _ (s : Shape) (gates a b : List ℕ) (from : Walked) (images out scratch 
         waiting = regroup k.sources k.o k.rest k.waiting;
       }
 
-  second_can : (r : Walked) (images' out' scratch' : List ℕ) → GoesOn s gates a from images out scratch r images' out' scratch'
+  second_can : (r : Result ℕ Refusal) (images' out' scratch' : List ℕ) → GoesOn s gates a from images out scratch r images' out' scratch'
       → CanGoOn s gates (a ++ b) from images out scratch → CanGoOn s gates b r images' out' scratch'
   second_can r images' out' scratch' t k =
       record {
@@ -202,44 +157,79 @@ module _ (s : Shape) (gates a b : List ℕ) (from : Walked) (images out scratch 
         waiting = t k.sources k.o (b ++ k.rest) (regroup k.sources k.o k.rest k.waiting);
       }
 
+  -- the first is walked and then the second; or the first is refused
+  both_walked : (r r' : Result ℕ Refusal) (images' out' scratch' images'' out'' scratch'' : List ℕ) → GoesOn s gates a from images out scratch r images' out' scratch'
+      → GoesOn s gates b r images' out' scratch' r' images'' out'' scratch''
+      → GoesOn s gates (a ++ b) from images out scratch r' images'' out'' scratch''
+  both_walked r r' images' out' scratch' images'' out'' scratch'' t u sources o rest w = u sources o rest (t sources o (b ++ rest) (regroup sources o rest w))
+
+  stops : (r : Result ℕ Refusal) (images' out' scratch' : List ℕ) → GoesOn s gates a from images out scratch r images' out' scratch'
+      → (why : Refusal) → r ≡ Err why → (r' : Result ℕ Refusal) → r' ≡ Err why → GoesOn s gates (a ++ b) from images out scratch r' images' out' scratch'
+  stops r images' out' scratch' t why q r' q' sources o rest w =
+      let stopped : Waits s sources gates o rest (Err why) images' out' scratch' =
+      subst (λ (x : Result ℕ Refusal). Waits s sources gates o (b ++ rest) x images' out' scratch') q (t sources o (b ++ rest) (regroup sources o rest w)) in
+      subst (λ (x : Result ℕ Refusal). Waits s sources gates o rest x images' out' scratch') (sym q') stopped
+
 -- outputs unless trimmed, next states, roots
-pub no_outputs : {trim : Bool} {words : ℕ} (gates : List ℕ) → trim ≡ true → words ≡ 0 → every_from 3 0 (take words gates) ≡ cond trim [] (outputs_of gates)
-no_outputs gates t e = rw (t, e) refl
-
-pub all_outputs : {s : Shape} {gates : List ℕ} {made : ℕ} {cs images out scratch : List ℕ} → CanWalk s gates made cs images out scratch
-    → {trim : Bool} {words : ℕ}
-    → trim ≡ false → words ≡ length gates → every_from 3 0 (take words gates) ≡ cond trim [] (outputs_of gates)
-all_outputs {gates = gates} k t e = rw (t, e, take-length gates) (every_third gates (omega (arith, k.waiting.ground.long)))
-
 module _ {s : Shape} {gates images out scratch : List ℕ} (trim : Bool) (nexts roots : List ℕ)
-    (k : CanWalk s gates 0 (turns trim gates nexts roots) images out scratch)
-    (words : ℕ) (e : every_from 3 0 (take words gates) ≡ cond trim [] (outputs_of gates)) where
-  pub outputs_can : CanGoOn s gates (every_from 3 0 (take words gates)) (Reached 0) images out scratch
-  outputs_can = rw e (first_can s gates (cond trim [] (outputs_of gates)) (nexts ++ roots) (Reached 0) images out scratch k)
+    (k : CanWalk s gates 0 (turns trim gates nexts roots) images out scratch) where
+  abbrev outputs : List ℕ
+  outputs = cond trim [] (outputs_of gates)
 
-  module _ (r₁ : Walked) (images₁ out₁ scratch₁ : List ℕ)
-      (t₁ : GoesOn s gates (every_from 3 0 (take words gates)) (Reached 0) images out scratch r₁ images₁ out₁ scratch₁) where
-    outputs_walked : GoesOn s gates (cond trim [] (outputs_of gates)) (Reached 0) images out scratch r₁ images₁ out₁ scratch₁
-    outputs_walked = subst (λ (cs : List ℕ). GoesOn s gates cs (Reached 0) images out scratch r₁ images₁ out₁ scratch₁) e t₁
+  -- there are outputs to be walked
+  module _ (on : trim ≡ false) where
+    are_outputs : every_from 3 0 gates ≡ outputs
+    are_outputs = rw on (every_third gates (omega (arith, k.waiting.ground.long)))
 
-    rest_can : CanGoOn s gates (nexts ++ roots) r₁ images₁ out₁ scratch₁
-    rest_can = second_can s gates (cond trim [] (outputs_of gates)) (nexts ++ roots) (Reached 0) images out scratch r₁ images₁ out₁ scratch₁ outputs_walked k
+    pub outputs_can : CanWalk s gates 0 (every_from 3 0 gates) images out scratch
+    outputs_can = rw are_outputs (first_can s gates outputs (nexts ++ roots) (Ok 0) images out scratch k)
 
-    pub nexts_can : CanGoOn s gates (every_from 1 0 nexts) r₁ images₁ out₁ scratch₁
-    nexts_can = rw (every_one nexts) (first_can s gates nexts roots r₁ images₁ out₁ scratch₁ rest_can)
+    module _ (r : Result ℕ Refusal) (images₁ out₁ scratch₁ : List ℕ) (t : Walks s gates 0 (every_from 3 0 gates) images out scratch r images₁ out₁ scratch₁) where
+      outputs_walked : Walks s gates 0 outputs images out scratch r images₁ out₁ scratch₁
+      outputs_walked = subst (λ (cs : List ℕ). Walks s gates 0 cs images out scratch r images₁ out₁ scratch₁) are_outputs t
 
-    module _ (r₂ : Walked) (images₂ out₂ scratch₂ : List ℕ) (t₂ : GoesOn s gates (every_from 1 0 nexts) r₁ images₁ out₁ scratch₁ r₂ images₂ out₂ scratch₂) where
-      nexts_walked : GoesOn s gates nexts r₁ images₁ out₁ scratch₁ r₂ images₂ out₂ scratch₂
-      nexts_walked = subst (λ (cs : List ℕ). GoesOn s gates cs r₁ images₁ out₁ scratch₁ r₂ images₂ out₂ scratch₂) (every_one nexts) t₂
+      pub outputs_stop : (why : Refusal) → r ≡ Err why → (r' : Result ℕ Refusal) → r' ≡ Err why
+          → Walks s gates 0 (turns trim gates nexts roots) images out scratch r' images₁ out₁ scratch₁
+      outputs_stop = stops s gates outputs (nexts ++ roots) (Ok 0) images out scratch r images₁ out₁ scratch₁ outputs_walked
 
-      pub roots_can : CanGoOn s gates (every_from 1 0 roots) r₂ images₂ out₂ scratch₂
-      roots_can = rw (every_one roots) (second_can s gates nexts roots r₁ images₁ out₁ scratch₁ r₂ images₂ out₂ scratch₂ nexts_walked rest_can)
+      pub outputs_done : (made : ℕ) → r ≡ Ok made → Walks s gates 0 (cond trim [] (outputs_of gates)) images out scratch (Ok made) images₁ out₁ scratch₁
+      outputs_done made q = subst (λ (x : Result ℕ Refusal). Walks s gates 0 outputs images out scratch x images₁ out₁ scratch₁) q outputs_walked
 
-      pub all_walked : (r₃ : Walked) (images₃ out₃ scratch₃ : List ℕ) → GoesOn s gates (every_from 1 0 roots) r₂ images₂ out₂ scratch₂ r₃ images₃ out₃ scratch₃
-          → Walks s gates 0 (turns trim gates nexts roots) images out scratch r₃ images₃ out₃ scratch₃
-      all_walked r₃ images₃ out₃ scratch₃ t₃ sources o rest w =
-          subst (λ (cs : List ℕ). GoesOn s gates cs r₂ images₂ out₂ scratch₂ r₃ images₃ out₃ scratch₃) (every_one roots) t₃ sources o rest
-          (nexts_walked sources o (roots ++ rest)
-          (regroup s gates nexts roots r₁ images₁ out₁ scratch₁ sources o rest
-          (outputs_walked sources o ((nexts ++ roots) ++ rest)
-          (regroup s gates (cond trim [] (outputs_of gates)) (nexts ++ roots) (Reached 0) images out scratch sources o rest w))))
+  -- there are none
+  pub no_outputs : trim ≡ true → Walks s gates 0 (cond trim [] (outputs_of gates)) images out scratch (Ok 0) images out scratch
+  no_outputs off = rw off (λ sources o rest w. w)
+
+  module _ (made₁ : ℕ) (images₁ out₁ scratch₁ : List ℕ)
+      (t₁ : Walks s gates 0 (cond trim [] (outputs_of gates)) images out scratch (Ok made₁) images₁ out₁ scratch₁) where
+    rest_can : CanWalk s gates made₁ (nexts ++ roots) images₁ out₁ scratch₁
+    rest_can = second_can s gates outputs (nexts ++ roots) (Ok 0) images out scratch (Ok made₁) images₁ out₁ scratch₁ t₁ k
+
+    pub nexts_can : CanWalk s gates made₁ (every_from 1 0 nexts) images₁ out₁ scratch₁
+    nexts_can = rw (every_one nexts) (first_can s gates nexts roots (Ok made₁) images₁ out₁ scratch₁ rest_can)
+
+    module _ (r₂ : Result ℕ Refusal) (images₂ out₂ scratch₂ : List ℕ)
+        (t₂ : Walks s gates made₁ (every_from 1 0 nexts) images₁ out₁ scratch₁ r₂ images₂ out₂ scratch₂) where
+      nexts_walked : Walks s gates made₁ nexts images₁ out₁ scratch₁ r₂ images₂ out₂ scratch₂
+      nexts_walked = subst (λ (cs : List ℕ). Walks s gates made₁ cs images₁ out₁ scratch₁ r₂ images₂ out₂ scratch₂) (every_one nexts) t₂
+
+      pub nexts_stop : (why : Refusal) → r₂ ≡ Err why → (r' : Result ℕ Refusal) → r' ≡ Err why
+          → Walks s gates 0 (turns trim gates nexts roots) images out scratch r' images₂ out₂ scratch₂
+      nexts_stop why q r' q' =
+          both_walked s gates outputs (nexts ++ roots) (Ok 0) images out scratch (Ok made₁) r' images₁ out₁ scratch₁ images₂ out₂ scratch₂ t₁
+          (stops s gates nexts roots (Ok made₁) images₁ out₁ scratch₁ r₂ images₂ out₂ scratch₂ nexts_walked why q r' q')
+
+      module _ (made₂ : ℕ) (q : r₂ ≡ Ok made₂) where
+        nexts_done : Walks s gates made₁ nexts images₁ out₁ scratch₁ (Ok made₂) images₂ out₂ scratch₂
+        nexts_done = subst (λ (x : Result ℕ Refusal). Walks s gates made₁ nexts images₁ out₁ scratch₁ x images₂ out₂ scratch₂) q nexts_walked
+
+        pub roots_can : CanWalk s gates made₂ (every_from 1 0 roots) images₂ out₂ scratch₂
+        roots_can =
+            rw (every_one roots) (second_can s gates nexts roots (Ok made₁) images₁ out₁ scratch₁ (Ok made₂) images₂ out₂ scratch₂ nexts_done rest_can)
+
+        pub all_walked : (r₃ : Result ℕ Refusal) (images₃ out₃ scratch₃ : List ℕ)
+            → Walks s gates made₂ (every_from 1 0 roots) images₂ out₂ scratch₂ r₃ images₃ out₃ scratch₃
+            → Walks s gates 0 (turns trim gates nexts roots) images out scratch r₃ images₃ out₃ scratch₃
+        all_walked r₃ images₃ out₃ scratch₃ t₃ =
+            both_walked s gates outputs (nexts ++ roots) (Ok 0) images out scratch (Ok made₁) r₃ images₁ out₁ scratch₁ images₃ out₃ scratch₃ t₁
+            (both_walked s gates nexts roots (Ok made₁) images₁ out₁ scratch₁ (Ok made₂) r₃ images₂ out₂ scratch₂ images₃ out₃ scratch₃ nexts_done
+            (subst (λ (cs : List ℕ). Walks s gates made₂ cs images₂ out₂ scratch₂ r₃ images₃ out₃ scratch₃) (every_one roots) t₃))

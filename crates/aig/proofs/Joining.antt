@@ -1,5 +1,7 @@
 -- The walks of a circuit that has passed the checks: the lists stand for the start of the walks, and what the walks say at their end is what the
 -- definitions say of the circuit. Assumes nothing.
+use Rattle.std.specs.Prelude.{Result, Ok, Err}
+use Rattle.circuit.specs.declared.Refusal.{Refusal}
 use Prim.Native.Nat.{ℕ, zero, suc, ◌+◌, ◌*◌, ◌-◌, ◌/◌, ◌<◌, ◌≤◌}
 use mathlib.Core.Path.{◌≡◌, refl, sym, ap, ◌∙◌, subst, subst⁻¹}
 use mathlib.Core.Logic.{◌⊎◌, inl, inr}
@@ -20,8 +22,6 @@ use Rattle.circuit.proofs.Tests.{lt_or}
 use Rattle.circuit.proofs.Renumber.{Limits, sized, counting}
 use Rattle.circuit.specs.Invariant.{Sized, Inv}
 use Rattle.aig.specs.declared.shape.Shape.{Shape}
-use Rattle.ending.specs.declared.Walked.{Walked}
-use Rattle.ending.specs.declared.Walked.TheVariants.{Reached, Stopped}
 use Rattle.aig.specs.Table.{Tabled}
 use Rattle.aig.specs.Layout.{links_size, links_of, Room}
 use Rattle.aig.specs.Trie.{Trie}
@@ -172,17 +172,17 @@ module _ {l : Lent} {map out scratch : List ℕ} (k : WalkReady l map out scratc
       }
 
   -- and end as the definitions say
-  pub walks_end : (r : Walked) (m g s : List ℕ) → Walks shape l.gates 0 (turns C.trim l.gates l.nexts l.roots) map out scratch r m g s
+  pub walks_end : (r : Result ℕ Refusal) (m g s : List ℕ) → Walks shape l.gates 0 (turns C.trim l.gates l.nexts l.roots) map out scratch r m g s
       → WalkEnds C last r m g
   unfolding walk_all
   walks_end r m g s f = go r (f sources last [] waiting)
     where
-      go : (r : Walked) → Waits shape sources l.gates last [] r m g s → WalkEnds C last r m g
-      go (Reached made) w =
-          subst (λ (o : Out). WalkEnds C o (Reached made) m g) w.comes (
-            ap Reached w.holds.count,
+      go : (r : Result ℕ Refusal) → Waits shape sources l.gates last [] r m g s → WalkEnds C last r m g
+      go (Ok made) w =
+          subst (λ (o : Out). WalkEnds C o (Ok made) m g) w.comes (
+            ap Ok w.holds.count,
             w.holds.images,
             w.holds.gates_made.words
                 ∙ ap (λ (n : ℕ). pair_words w.work.made ++ zeros (2 * (n - length w.work.made))) (sym (gates_length l.gates)),
           )
-      go (Stopped why) w = subst (λ (o : Out). WalkEnds C o (Stopped why) m g) w.comes refl
+      go (Err why) w = subst (λ (o : Out). WalkEnds C o (Err why) m g) w.comes refl

@@ -6,12 +6,10 @@ pub mod Passing
 pub mod Tabling
 pub mod Concluding
 pub mod Parts
-pub mod Accessors
 pub mod Branching
 pub mod Finding
 pub mod Stepping
 pub mod Weighing
-pub mod Settling
 pub mod Standing
 pub mod Transferring
 pub mod Returning
@@ -19,4 +17,5 @@ pub mod Holding
 pub mod Closing
 pub mod Reading
 pub mod Looping
+pub mod Strides
 pub mod InTurn

@@ -1,4 +1,5 @@
 -- What a walk that goes on says of the indexes that its step reads and writes. Assumes nothing.
+use Rattle.std.specs.Prelude.{Some}
 use Prim.Native.Nat.{ℕ, ◌+◌, ◌*◌, ◌^◌, ◌<◌, ◌≤◌}
 use mathlib.Core.Path.{◌≡◌}
 use mathlib.Core.List.{List}
@@ -8,24 +9,21 @@ use Rattle.lit.specs.Code.{var}
 use Rattle.lit.specs.declared.Lit.{Lit}
 use Rattle.circuit.specs.Walk.{Out}
 use Rattle.aig.specs.declared.shape.Shape.{Shape}
-use Rattle.aig.specs.declared.table.GateNumber.TheVariants.{Number}
 use Rattle.aig.specs.declared.walk.Walk.{Walk}
 use Rattle.aig.specs.declared.walk.State.{State}
-use Rattle.aig.specs.declared.walk.State.TheVariants.{Transfer, First, Second, Return}
+use Rattle.aig.specs.declared.walk.State.TheVariants.{Transfer, First, Return}
 use Rattle.aig.specs.Table.{gate_at}
 use Rattle.aig.specs.Layout.{Room}
 use Rattle.aig.specs.Going.{Ground, On}
 use Rattle.aig.specs.Turns.{Walking}
 use Rattle.aig.proofs.Standing.{room_is, number_reads}
 use Rattle.aig.proofs.Transferring.{first_within}
-use Rattle.aig.proofs.Closing.{second_within}
 
 -- a literal's own places, and its gate's words
 pub record Reads (s : Shape) (gates : List ℕ) (l : Lit) (scratch : List ℕ) : Type 0 where
   pub room : Room s scratch
-  pub in_table : var l.0 < length scratch
   pub code : l.0 < 2 ^ 31
-  pub number : (j : ℕ) → gate_at scratch (var l.0) ≡ Number j → 3 * j + 2 < length gates
+  pub number : (j : ℕ) → gate_at scratch (var l.0) ≡ Some j → 3 * j + 2 < length gates
 
 -- what holds of a literal in the circuit
 reads : {s : Shape} {sources gates : List ℕ} {o : Out} {state : State} {map out scratch : List ℕ} (l : Lit) → Ground s sources gates
@@ -34,7 +32,6 @@ reads l g k i =
     let r = k.holds.gates_made.room in
     record {
       room = r;
-      in_table = omega (arith, r.long);
       code = omega (arith, r.vars);
       number = number_reads g k.holds (var l.0) i;
     }
@@ -51,9 +48,6 @@ module _ {s : Shape} {gates : List ℕ} {n : Walk} {l : Lit} {map out scratch : 
 
   pub first_depth : Walking s gates (First n l) map out scratch → n.depth < 2 * s.gates
   first_depth w = let k = w.going.goes in omega (arith, k.stacked.count, k.running.short, room_is w.going.ground)
-
-  pub second_place : Walking s gates (Second n l) map out scratch → var l.0 < length scratch
-  second_place w = (reads l w.going.ground w.going.goes (second_within w.going)).in_table
 
 module _ {s : Shape} {gates : List ℕ} {n : Walk} {map out scratch : List ℕ} where
   pub back_room : Walking s gates (Return n) map out scratch → Room s scratch

@@ -1,8 +1,8 @@
 -- What a walk that goes on says of the lists: their lengths, bounds of what is read, and that it goes on after a step. Assumes nothing.
+use Rattle.std.specs.Prelude.{Some, None}
 use Prim.Native.Nat.{ℕ, ◌+◌, ◌*◌, ◌-◌, ◌/◌, ◌<◌}
 use mathlib.Core.Path.{◌≡◌, refl, sym, ◌∙◌, ap, subst}
 use mathlib.Core.Bool.{Bool, true, false, cond}
-use mathlib.Core.Option.{none, some}
 use mathlib.Core.List.{List, [], ◌∷◌, ◌++◌}
 use native.Mathlib.Omega.{arith}
 use lib.Dec.{eqb, ltb}
@@ -16,7 +16,6 @@ use Rattle.circuit.specs.Machine.{Frame, path_of, frame_word, stack_words}
 use Rattle.circuit.specs.Outcome.{gates_of}
 use Rattle.circuit.proofs.Words.{gates_length, stack_length, middle_words, path_length}
 use Rattle.aig.specs.declared.shape.Shape.{Shape}
-use Rattle.aig.specs.declared.table.GateNumber.TheVariants.{Number, Nothing}
 use Rattle.aig.specs.Table as table
 use Rattle.aig.specs.Layout.{links_at, links_size, stack_at, stack_size, table_of, links_of, stack_of, Room}
 use Rattle.aig.specs.Stack.{middle_is}
@@ -47,21 +46,21 @@ module _ {s : Shape} {sources gates : List ℕ} (g : Ground s sources gates) whe
       told : table.Tells (gates_of gates) v (table.gate_at scratch v)
       unfolding table.gate_at
       told =
-          subst (λ (x : ℕ). table.Tells (gates_of gates) v (cond (ltb x 2) Nothing (Number (x - 2)))) (get_or-take s.vars scratch v 0 i)
+          subst (λ (x : ℕ). table.Tells (gates_of gates) v (cond (ltb x 2) None (Some (x - 2)))) (get_or-take s.vars scratch v 0 i)
           (h.table v (omega (arith, length-take-le s.vars scratch (omega (arith, h.gates_made.room.long)))))
 
-      pub table_none : table.gate_at scratch v ≡ Nothing → gate_for (gates_of gates) v ≡ none
+      pub table_none : table.gate_at scratch v ≡ None → gate_for (gates_of gates) v ≡ None
       table_none e = subst (table.Tells (gates_of gates) v) e told
 
-      module _ (j : ℕ) (e : table.gate_at scratch v ≡ Number j) where
-        at_number : (j < length (gates_of gates)) × (gate_for (gates_of gates) v ≡ some (get_or (gates_of gates) j no_gate))
+      module _ (j : ℕ) (e : table.gate_at scratch v ≡ Some j) where
+        at_number : (j < length (gates_of gates)) × (gate_for (gates_of gates) v ≡ Some (get_or (gates_of gates) j no_gate))
         at_number = subst (table.Tells (gates_of gates) v) e told
 
         pub number_reads : 3 * j + 2 < length gates
         number_reads = omega (arith, gate_count_lem, at_number.0, g.long)
 
-        pub table_gate : gate_for (gates_of gates) v ≡ some (gate_at gates j)
-        table_gate = at_number.1 ∙ ap some (gates_at_lem gates j (omega (arith, number_reads)))
+        pub table_gate : gate_for (gates_of gates) v ≡ Some (gate_at gates j)
+        table_gate = at_number.1 ∙ ap Some (gates_at_lem gates j (omega (arith, number_reads)))
 
         pub first_inside : var (gate_at gates j).first < s.vars
         first_inside = g.inside (3 * j + 1) (omega (arith, number_reads))

@@ -1,12 +1,11 @@
 -- What one step of the machine is in each case, as the code finds it; and that a step leaves a machine that runs and comes to the same. Assumes nothing.
+use Rattle.std.specs.Prelude.{Some, None}
 use Prim.Native.Nat.{ℕ, ◌<◌}
 use mathlib.Core.Path.{◌≡◌, refl, ◌∙◌, subst}
 use mathlib.Core.Bool.{Bool, true, false}
-use mathlib.Core.Option.{none, some}
 use mathlib.Core.List.{List, [], ◌∷◌}
 use Rattle.lit.specs.Code.{var, literal}
 use Rattle.lit.specs.declared.Lit.{Lit}
-use Rattle.circuit.specs.declared.Image.TheVariants.{Absent, Code}
 use Rattle.circuit.specs.declared.Refusal.TheVariants.{Undefined, Cycle}
 use Rattle.circuit.specs.Graph.{Gate, DefinedOnce, gate_for}
 use Rattle.circuit.specs.Map.{image_in}
@@ -26,21 +25,21 @@ abbrev pub frame : ℕ → Bool → Frame
 frame c b = record { lit = c; on_second = b }
 
 module _ (N : Net) (fs : List Frame) (c : ℕ) (w : Work) where
-  pub step_mapped : (t : Lit) → image_in w.images c ≡ Code t → step N (walking fs c w) ≡ goes (returning fs w)
+  pub step_mapped : (t : Lit) → image_in w.images c ≡ Some t → step N (walking fs c w) ≡ goes (returning fs w)
   unfolding step step_at look step_look
   step_mapped t e = rw e
 
-  module _ (gone : image_in w.images c ≡ Absent) where
+  module _ (gone : image_in w.images c ≡ None) where
     pub step_cycle : is_middle (path_of fs) c ≡ true → step N (walking fs c w) ≡ ends (stopped (Cycle (literal c)))
     unfolding step step_at look step_look
     step_cycle e = rw (gone, e)
 
     module _ (off : is_middle (path_of fs) c ≡ false) where
-      pub step_undefined : gate_for N.graph.gates (var c) ≡ none → step N (walking fs c w) ≡ ends (stopped (Undefined (literal c)))
+      pub step_undefined : gate_for N.graph.gates (var c) ≡ None → step N (walking fs c w) ≡ ends (stopped (Undefined (literal c)))
       unfolding step step_at look step_look
       step_undefined e = rw (gone, off, e)
 
-      module _ (g : Gate) (is_gate : gate_for N.graph.gates (var c) ≡ some g) where
+      module _ (g : Gate) (is_gate : gate_for N.graph.gates (var c) ≡ Some g) where
         pub looks_enter : look N (path_of fs) w c ≡ enter g
         unfolding look
         looks_enter = rw (gone, off, is_gate)
@@ -49,11 +48,11 @@ module _ (N : Net) (fs : List Frame) (c : ℕ) (w : Work) where
         unfolding step step_at look step_look
         step_enter = rw (gone, off, is_gate)
 
-  pub step_no_gate : (b : Bool) → gate_for N.graph.gates (var c) ≡ none → step N (returning (frame c b ∷ fs) w) ≡ ends (stopped (Undefined (literal c)))
+  pub step_no_gate : (b : Bool) → gate_for N.graph.gates (var c) ≡ None → step N (returning (frame c b ∷ fs) w) ≡ ends (stopped (Undefined (literal c)))
   unfolding step step_at step_back
   step_no_gate b e = rw e
 
-  module _ (g : Gate) (is_gate : gate_for N.graph.gates (var c) ≡ some g) where
+  module _ (g : Gate) (is_gate : gate_for N.graph.gates (var c) ≡ Some g) where
     pub step_first : step N (returning (frame c false ∷ fs) w) ≡ goes (walking (frame c true ∷ fs) g.second w)
     unfolding step step_at step_back
     step_first = rw is_gate

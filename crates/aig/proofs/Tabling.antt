@@ -1,8 +1,8 @@
 -- Checks 5 and 6 where checks 1 to 4 are passed: what the table of definitions says is what the checks say, and where they pass the lists are as the
 -- walks want them. Assumes nothing.
+use Rattle.std.specs.Prelude.{Option, Some, None, Result, Err}
 use Prim.Native.Nat.{ℕ, zero, suc, ◌+◌, ◌*◌, ◌-◌, ◌/◌, ◌≤◌}
 use mathlib.Core.Path.{◌≡◌, refl, sym, ap, ◌∙◌, subst, subst⁻¹}
-use mathlib.Core.Option.{Option, none, some}
 use mathlib.Core.List.{List, [], ◌∷◌, ◌++◌, map, append_assoc}
 use native.Mathlib.Omega.{arith}
 use lib.ListN.{length, take, drop, replicate, length-append, length-drop, length-replicate}
@@ -18,16 +18,12 @@ use Rattle.circuit.specs.Circuit.{Circuit, graph, net, gate_outputs, first_again
 use Rattle.circuit.specs.Outcome.{Lent, circuit_of, map_words, scratch_words, zeros, onto}
 use Rattle.circuit.proofs.Checks.{Apart, Again, once, again_test, map-append, map_outputs, parts_join}
 use Rattle.circuit.proofs.Words.{gates_length}
-use Rattle.checks.specs.declared.Check.{Check}
-use Rattle.checks.specs.declared.Check.TheVariants.{Passed, Failed}
-use Rattle.checks.specs.Checks.{fail_at}
+use Rattle.checks.specs.Checks.{Check, passed, fail_at}
 use Rattle.circuit.proofs.Outcome.{onto_long}
 use Rattle.images.specs.Begin.{begun}
 use Rattle.images.proofs.Few.{few}
 use Rattle.defs.specs.Define.{Judged, define_all}
 use Rattle.beginning.specs.Beginning.{Ready, ready_of, cleaned, with_table, prepared}
-use Rattle.ending.specs.declared.Walked.{Walked}
-use Rattle.ending.specs.declared.Walked.TheVariants.{Stopped}
 use Rattle.aig.specs.Table.{Tabled, Codes}
 use Rattle.aig.specs.Walked.{WalkIn, WalkReady, WalkEnds, EndsIn}
 use Rattle.aig.proofs.Bounds.{input_low, output_low, state_low}
@@ -84,17 +80,17 @@ module _ {l : Lent} {words out scratch : List ℕ} (x : WalkIn l words out scrat
   output_codes c h = omega (arith, output_low x.bounds x.agrees c h)
 
   -- no variable is defined twice
-  pub once_of : five ≡ none → six ≡ none → DefinedOnce (graph D)
+  pub once_of : five ≡ None → six ≡ None → DefinedOnce (graph D)
   once_of e f = go five (again_test (0 ∷ []) (definitions D)) e six (again_test (0 ∷ map var (definitions D)) l.states) f
     where
       io : map var (definitions D) ≡ map var l.inputs ++ map out_var D.gates
       io = map-append var l.inputs (gate_outputs D) ∙ ap (λ (y : List ℕ). map var l.inputs ++ y) (map_outputs D.gates)
 
-      go : (o : Option ℕ) → Again (0 ∷ []) (definitions D) o → o ≡ none → (o' : Option ℕ) → Again (0 ∷ map var (definitions D)) l.states o' → o' ≡ none
+      go : (o : Option ℕ) → Again (0 ∷ []) (definitions D) o → o ≡ None → (o' : Option ℕ) → Again (0 ∷ map var (definitions D)) l.states o' → o' ≡ None
           → DefinedOnce (graph D)
-      go (some d) v p o' v' q = absurd (let z : ◌≡◌ {A = ℕ} 0 1 = cc in omega arith)
-      go none v p (some d) v' q = absurd (let z : ◌≡◌ {A = ℕ} 0 1 = cc in omega arith)
-      go none (once d z) p none (once d' n) q =
+      go (Some d) v p o' v' q = absurd (let z : ◌≡◌ {A = ℕ} 0 1 = cc in omega arith)
+      go None v p (Some d) v' q = absurd (let z : ◌≡◌ {A = ℕ} 0 1 = cc in omega arith)
+      go None (once d z) p None (once d' n) q =
           subst⁻¹ (λ (y : List ℕ). Distinct (0 ∷ (y ++ map out_var D.gates))) (map-append var l.inputs l.states)
           (parts_join (map var l.inputs) (map var l.states) (map out_var D.gates) (subst Distinct io d)
           (subst (λ (y : List ℕ). Apart y (0 ∷ [])) io z) d' (subst (λ (y : List ℕ). Apart (map var l.states) (0 ∷ y)) io n))
@@ -103,29 +99,29 @@ module _ {l : Lent} {words out scratch : List ℕ} (x : WalkIn l words out scrat
   abbrev J : Judged
   J = define_all (zeros n) l.inputs l.states D.gates
 
-  says : J.said ≡ fail_at five R.Again (fail_at six R.StateAgain Passed)
+  says : J.said ≡ fail_at five R.Again (fail_at six R.StateAgain passed)
   says = defines l.inputs l.states D.gates n (omega arith) x.within.gates input_codes_lem state_codes_lem output_codes J.words J.said refl
 
-  refuses : (why : Refusal) → J.said ≡ Failed why → numbered D ≡ stopped why
+  refuses : (why : Refusal) → J.said ≡ Err why → numbered D ≡ stopped why
   refuses why p = in_order ∙ go five six (sym p ∙ says)
     where
-      go : (a b : Option ℕ) → Failed why ≡ fail_at a R.Again (fail_at b R.StateAgain Passed) → or_refuse a R.Again (or_refuse b R.StateAgain lasts) ≡ stopped why
-      go (some d) b k = let z : R.Again (literal d) ≡ why = cc in ap stopped z
-      go none (some d) k = let z : R.StateAgain (literal d) ≡ why = cc in ap stopped z
-      go none none k = absurd (let z : ◌≡◌ {A = ℕ} 0 1 = cc in omega arith)
+      go : (a b : Option ℕ) → Err why ≡ fail_at a R.Again (fail_at b R.StateAgain passed) → or_refuse a R.Again (or_refuse b R.StateAgain lasts) ≡ stopped why
+      go (Some d) b k = let z : R.Again (literal d) ≡ why = cc in ap stopped z
+      go None (Some d) k = let z : R.StateAgain (literal d) ≡ why = cc in ap stopped z
+      go None None k = absurd (let z : ◌≡◌ {A = ℕ} 0 1 = cc in omega arith)
 
-  both : J.said ≡ Passed → (five ≡ none) × (six ≡ none)
+  both : J.said ≡ passed → (five ≡ None) × (six ≡ None)
   both p = go five refl six refl (sym p ∙ says)
     where
-      go : (a : Option ℕ) → five ≡ a → (b : Option ℕ) → six ≡ b → Passed ≡ fail_at a R.Again (fail_at b R.StateAgain Passed) → (five ≡ none) × (six ≡ none)
-      go (some d) p₁ b p₂ k = absurd (let z : ◌≡◌ {A = ℕ} 0 1 = cc in omega arith)
-      go none p₁ (some d) p₂ k = absurd (let z : ◌≡◌ {A = ℕ} 0 1 = cc in omega arith)
-      go none p₁ none p₂ k = (p₁, p₂)
+      go : (a : Option ℕ) → five ≡ a → (b : Option ℕ) → six ≡ b → passed ≡ fail_at a R.Again (fail_at b R.StateAgain passed) → (five ≡ None) × (six ≡ None)
+      go (Some d) p₁ b p₂ k = absurd (let z : ◌≡◌ {A = ℕ} 0 1 = cc in omega arith)
+      go None p₁ (Some d) p₂ k = absurd (let z : ◌≡◌ {A = ℕ} 0 1 = cc in omega arith)
+      go None p₁ None p₂ k = (p₁, p₂)
 
-  by_walks : J.said ≡ Passed → numbered D ≡ lasts
+  by_walks : J.said ≡ passed → numbered D ≡ lasts
   by_walks p = in_order ∙ rw ((both p).0, (both p).1)
 
-  tabled : J.said ≡ Passed → Tabled D.gates J.words
+  tabled : J.said ≡ passed → Tabled D.gates J.words
   tabled p =
       tables l.inputs l.states D.gates n (omega arith) x.within.gates input_codes_lem state_codes_lem output_codes J.words J.said refl p
       (once_of (both p).0 (both p).1)
@@ -196,18 +192,18 @@ module _ {l : Lent} {words out scratch : List ℕ} (x : WalkIn l words out scrat
         cut s (J.words ++ zeros (k - n)) (drop k scratch) k (scratch_is ∙ sym (append_assoc J.words (zeros (k - n)) (drop k scratch)))
         (omega (arith, table_long, length-append J.words (zeros (k - n)), length-replicate {A = ℕ} (k - n) 0))
 
-    pub refused_ends : (why : Refusal) → r ≡ Failed why → EndsIn D words out scratch (numbered D) (Stopped why) m o s
+    pub refused_ends : (why : Refusal) → r ≡ Err why → EndsIn D words out scratch (numbered D) (Err why) m o s
     refused_ends why p =
         record {
-          ends = subst⁻¹ (λ (y : Out). WalkEnds D y (Stopped why) (take n m) (take (2 * G) o)) (refuses why (sym said_is ∙ p)) refl;
+          ends = subst⁻¹ (λ (y : Out). WalkEnds D y (Err why) (take n m) (take (2 * G) o)) (refuses why (sym said_is ∙ p)) refl;
           past_map = map_parts.1;
           past_out = out_parts.1;
           past_scratch = scratch_parts.1;
         }
 
     -- where the checks pass, with v words of the map and c gates
-    module _ (p : r ≡ Passed) (v c : ℕ) (is_words : v ≡ n) (is_count : c ≡ length l.gates / 3) where
-      passes : J.said ≡ Passed
+    module _ (p : r ≡ passed) (v c : ℕ) (is_words : v ≡ n) (is_count : c ≡ length l.gates / 3) where
+      passes : J.said ≡ passed
       passes = sym said_is ∙ p
 
       pairs : 2 * c ≡ 2 * G
@@ -258,7 +254,7 @@ module _ {l : Lent} {words out scratch : List ℕ} (x : WalkIn l words out scrat
       scratch_front = omega (arith, work, es, x.scratch_long)
 
       -- after the walks in the fronts, whose words are m', o' and s' then
-      pub ends_in_lem : length o ≡ length out → (y : Walked) (m' o' s' : List ℕ) → WalkEnds D lasts y m' o' → length m' ≡ length (take v m)
+      pub ends_in_lem : length o ≡ length out → (y : Result ℕ Refusal) (m' o' s' : List ℕ) → WalkEnds D lasts y m' o' → length m' ≡ length (take v m)
           → length o' ≡ length (take (2 * c) o) → length s' ≡ length (take (3 * v + 3 * c) s)
           → EndsIn D words out scratch (numbered D) y (m' ++ drop v m) (o' ++ drop (2 * c) o) (s' ++ drop (3 * v + 3 * c) s)
       ends_in_lem eo y m' o' s' w fm fo fs =

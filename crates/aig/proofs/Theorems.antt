@@ -17,14 +17,14 @@ pub one_lookup : Determines 1 lookup-kinds.ps lookup-kinds.r lookup-promise.Lear
 one_lookup κs a x y e f p q = p ∙ sym q
 
 pub one_renumber :
-    DeterminesCells 12 renumber-kinds.ps renumber-kinds.r renumber-promise.Learnt {A = List ℕ × List ℕ × List ℕ × List ℕ × List ℕ × List ℕ}
+    DeterminesCells 3 renumber-kinds.ps renumber-kinds.r renumber-promise.Learnt {A = List ℕ × List ℕ × List ℕ × List ℕ × List ℕ × List ℕ}
     (λ κs e. (
-      e.1.1.1.1.1.1.1.0.now,
-      e.1.1.1.1.1.1.1.1.0.now,
-      e.1.1.1.1.1.1.1.1.1.0.now,
-      e.1.1.1.1.1.1.1.1.1.1.0.now,
-      e.1.1.1.1.1.1.1.1.1.1.1.0.now,
-      e.1.1.1.1.1.1.1.1.1.1.1.1.0.now,
+      e.1.1.0.0.now,
+      e.1.1.0.1.0.now,
+      e.1.1.0.1.1.0.now,
+      e.1.1.0.1.1.1.0.now,
+      e.1.1.0.1.1.1.1.0.now,
+      e.1.1.0.1.1.1.1.1.0.now,
     ))
 one_renumber κs a x y e f p q = (
   ap (λ (o : Outcome). o.answer) (p ∙ sym q),

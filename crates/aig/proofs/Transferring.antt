@@ -1,15 +1,15 @@
 -- The steps of a literal about to be walked and of a first input that has its image keep what the walk comes to: one law for each return. Assumes
 -- nothing.
+use Rattle.std.specs.Prelude.{Option, Some, None}
+use Rattle.std.specs.Option.{is_some}
 use Prim.Native.Nat.{ℕ, ◌+◌, ◌*◌, ◌<◌}
-use mathlib.Core.Path.{◌≡◌, sym, ◌∙◌, ap}
+use mathlib.Core.Path.{◌≡◌, refl, sym, ◌∙◌, ap}
 use mathlib.Core.Bool.{true, false}
-use mathlib.Core.Option.{some}
 use mathlib.Core.List.{List, ◌∷◌}
 use native.Mathlib.Omega.{arith}
 use lib.ListN.{set}
 use Rattle.lit.specs.Code.{var, literal}
 use Rattle.lit.specs.declared.Lit.{Lit}
-use Rattle.circuit.specs.declared.Image.TheVariants.{Absent, Code}
 use Rattle.circuit.specs.declared.Refusal.{Refusal}
 use Rattle.circuit.specs.declared.Refusal.TheVariants.{Undefined, Cycle}
 use Rattle.circuit.specs.Graph.{gate_for}
@@ -21,7 +21,6 @@ use Rattle.circuit.specs.Invariant.{Running, comes_to}
 use Rattle.circuit.specs.Claims.{gate_at}
 use Rattle.circuit.proofs.Machine.{enter_room}
 use Rattle.aig.specs.declared.shape.Shape.{Shape}
-use Rattle.aig.specs.declared.table.GateNumber.TheVariants.{Number, Nothing}
 use Rattle.aig.specs.declared.stack.Frame.TheVariants as entry
 use Rattle.aig.specs.declared.walk.Walk.{Walk}
 use Rattle.aig.specs.declared.walk.State.{State}
@@ -82,8 +81,8 @@ module _ {s : Shape} {sources gates : List ℕ} {o : Out} {n : Walk} {l : Lit} {
   unfolding to_go
   stop why st = record { going = record { ground = g; goes = halted g here t.holds t.running t.comes why st }; less = omega arith }
 
-  pub transfer_mapped : {x : Lit} → image_in map l.0 ≡ Code x → After (Return n) scratch
-  transfer_mapped {x} e =
+  mapped : (x : Lit) → image_in map l.0 ≡ Some x → After (Return n) scratch
+  mapped x e =
       let st : step (net_of s sources gates) here ≡ goes (returning t.frames t.work)
       = step_mapped (net_of s sources gates) t.frames l.0 t.work x (sym image_same ∙ e) in
       record {
@@ -97,19 +96,33 @@ module _ {s : Shape} {sources gates : List ℕ} {o : Out} {n : Walk} {l : Lit} {
             );
       }
 
-  module _ (gone : image_in map l.0 ≡ Absent) where
+  pub transfer_mapped : is_some (image_in map l.0) ≡ true → After (Return n) scratch
+  transfer_mapped = go (image_in map l.0) refl
+    where
+      go : (i : Option Lit) → image_in map l.0 ≡ i → is_some i ≡ true → After (Return n) scratch
+      go (Some x) e p = mapped x e
+      go None e p = absurd (let z : ◌≡◌ {A = ℕ} 0 1 = cc in omega arith)
+
+  module _ (unmapped : is_some (image_in map l.0) ≡ false) where
+    gone : image_in map l.0 ≡ None
+    gone = go (image_in map l.0) unmapped
+      where
+        go : (i : Option Lit) → is_some i ≡ false → i ≡ None
+        go (Some x) p = absurd (let z : ◌≡◌ {A = ℕ} 0 1 = cc in omega arith)
+        go None p = refl
+
     pub transfer_cycle : middle_is (stack_of s scratch) n.depth l.0 ≡ true → After (Stopped (Cycle l)) scratch
     transfer_cycle e = stop (Cycle l) (step_cycle (net_of s sources gates) t.frames l.0 t.work (sym image_same ∙ gone) (sym middle_same ∙ e))
 
     module _ (off : middle_is (stack_of s scratch) n.depth l.0 ≡ false) where
-      pub transfer_undefined : table.gate_at scratch (var l.0) ≡ Nothing → After (Stopped (Undefined l)) scratch
+      pub transfer_undefined : table.gate_at scratch (var l.0) ≡ None → After (Stopped (Undefined l)) scratch
       transfer_undefined e =
           stop (Undefined l)
           (step_undefined (net_of s sources gates) t.frames l.0 t.work (sym image_same ∙ gone) (sym middle_same ∙ off)
           (table_none g t.holds (var l.0) t.inside e))
 
-      module _ {j : ℕ} (e : table.gate_at scratch (var l.0) ≡ Number j) where
-        its_gate : gate_for (gates_of gates) (var l.0) ≡ some (gate_at gates j)
+      module _ {j : ℕ} (e : table.gate_at scratch (var l.0) ≡ Some j) where
+        its_gate : gate_for (gates_of gates) (var l.0) ≡ Some (gate_at gates j)
         its_gate = table_gate g t.holds (var l.0) t.inside j e
 
         -- there is room for one entry more
@@ -168,7 +181,7 @@ module _ {s : Shape} {sources gates : List ℕ} {o : Out} {n : Walk} {l : Lit} {
   pub first_within : var l.0 < s.vars
   first_within = frame_inside k.ground t₁.running
 
-  pub first-none : table.gate_at scratch (var l.0) ≡ Nothing → AfterFirst (Stopped (Undefined l)) scratch
+  pub first-none : table.gate_at scratch (var l.0) ≡ None → AfterFirst (Stopped (Undefined l)) scratch
   unfolding to_go
   first-none e =
       record {
@@ -182,7 +195,7 @@ module _ {s : Shape} {sources gates : List ℕ} {o : Out} {n : Walk} {l : Lit} {
         less = omega arith;
       }
 
-  module _ {j : ℕ} (e : table.gate_at scratch (var l.0) ≡ Number j) where
+  module _ {j : ℕ} (e : table.gate_at scratch (var l.0) ≡ Some j) where
     abbrev ws₁ : List ℕ
     ws₁ = set scratch (stack_at s + n.depth) (word_of (entry.Second l))
 

@@ -1,10 +1,8 @@
 -- What stands for a gate already. Assumes nothing.
-use Rattle.std.specs.Prelude.{ℕ, ◌+◌, ◌*◌, ◌<◌, ◌≡◌, true, List}
-use Rattle.std.proofs.Math.Option.{Option}
+use Rattle.std.specs.Prelude.{ℕ, ◌+◌, ◌*◌, ◌<◌, ◌≡◌, true, List, Option, Some, None}
 use Rattle.circuit.specs.Walk as walk
 use Rattle.aig.specs.declared.shape.Shape.{Shape}
 use Rattle.fold.specs.declared.Pair.{Pair}
-use Rattle.fold.specs.declared.Already.TheVariants.{Code, New}
 use Rattle.fold.specs.Fold.{already_of}
 use Rattle.aig.specs.declared.trie.Search.{Search}
 use Rattle.aig.specs.declared.trie.Search.TheVariants.{Found, Free}
@@ -36,8 +34,8 @@ pub record FreeIn (s : Shape) (made : List walk.Pair) (p : Pair) (scratch : List
 
 -- a search's answer: the code that is there; or that there is none, and with hashing the place for a gate with the pair
 abbrev pub Says : Shape → List walk.Pair → Pair → List ℕ → Option ℕ → Search → Type 0
-Says s made p scratch o (Found t) = Code t ≡ already_of o
-Says s made p scratch o (Free place) = (New ≡ already_of o) × (s.hash ≡ true → FreeIn s made p scratch place)
+Says s made p scratch o (Found t) = Some t ≡ already_of o
+Says s made p scratch o (Free place) = (None ≡ already_of o) × (s.hash ≡ true → FreeIn s made p scratch place)
 
 -- a pair can be looked for: gates made stand in the lent words, and its codes are below 2V+2
 pub record CanSeek (s : Shape) (p : Pair) (out scratch : List ℕ) : Type 0 where

@@ -1,12 +1,12 @@
 -- What a step keeps, and what falls with it. Assumes nothing.
-use Rattle.std.specs.Prelude.{ℕ, ◌+◌, ◌*◌, ◌-◌, ◌%◌, ◌<◌, cond, List, [], ◌∷◌, eqb, length, take}
+use Rattle.std.specs.Prelude.{ℕ, ◌+◌, ◌*◌, ◌-◌, ◌%◌, ◌<◌, cond, List, [], ◌∷◌, eqb, length, take, Result, Ok, Err}
 use Rattle.circuit.specs.Walk.{Out, stopped}
 use Rattle.circuit.specs.Outcome.{gates_of}
 use Rattle.circuit.specs.Invariant.{settled}
 use Rattle.aig.specs.declared.shape.Shape.{Shape}
 use Rattle.aig.specs.declared.walk.State.{State}
 use Rattle.aig.specs.declared.walk.State.TheVariants.{Transfer, First, Second, Return, Reached, Stopped}
-use Rattle.ending.specs.declared.Walked.{Walked}
+use Rattle.circuit.specs.declared.Refusal.{Refusal}
 use Rattle.aig.specs.Layout.{stack_of}
 use Rattle.aig.specs.Going.{Going, Done, Halted}
 
@@ -46,10 +46,10 @@ Turns s gates state map out scratch state' map' out' scratch' =
     → Onward s sources gates o state' map' out' scratch' (to_go s gates state map scratch)
 
 -- a whole walk comes to what it came to
-abbrev pub Ended : Shape → List ℕ → List ℕ → Out → Walked → List ℕ → List ℕ → List ℕ → Type 0
-Ended s sources gates o (Walked.Reached made) map out scratch = Done s sources gates o made map out scratch
-Ended s sources gates o (Walked.Stopped why) map out scratch = Halted s o (stopped why) map out scratch
+abbrev pub Ended : Shape → List ℕ → List ℕ → Out → Result ℕ Refusal → List ℕ → List ℕ → List ℕ → Type 0
+Ended s sources gates o (Ok made) map out scratch = Done s sources gates o made map out scratch
+Ended s sources gates o (Err why) map out scratch = Halted s o (stopped why) map out scratch
 
-abbrev pub Runs : Shape → List ℕ → State → List ℕ → List ℕ → List ℕ → Walked → List ℕ → List ℕ → List ℕ → Type 0
+abbrev pub Runs : Shape → List ℕ → State → List ℕ → List ℕ → List ℕ → Result ℕ Refusal → List ℕ → List ℕ → List ℕ → Type 0
 Runs s gates state map out scratch r map' out' scratch' =
     (sources : List ℕ) (o : Out) → Going s sources gates o state map out scratch → Ended s sources gates o r map' out' scratch'

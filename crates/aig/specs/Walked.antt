@@ -1,5 +1,5 @@
 -- What the walks are given and what they leave. Assumes nothing.
-use Rattle.std.specs.Prelude.{ℕ, ◌+◌, ◌-◌, ◌*◌, ◌≤◌, ◌≡◌, List, ◌++◌, length, take, drop}
+use Rattle.std.specs.Prelude.{ℕ, ◌+◌, ◌-◌, ◌*◌, ◌≤◌, ◌≡◌, List, ◌++◌, length, take, drop, Result, Ok, Err}
 use Rattle.circuit.specs.Graph.{DefinedOnce}
 use Rattle.circuit.specs.Walk.{Out, reached, stopped}
 use Rattle.circuit.specs.Circuit.{Circuit, graph, start}
@@ -8,8 +8,7 @@ use Rattle.circuit.specs.Claims.{Within, Agrees}
 use Rattle.circuit.specs.Tested.{InBounds}
 use Rattle.circuit.specs.Resets.{with_resets}
 use Rattle.aig.specs.Table.{Tabled}
-use Rattle.ending.specs.declared.Walked.{Walked}
-use Rattle.ending.specs.declared.Walked.TheVariants.{Reached, Stopped}
+use Rattle.circuit.specs.declared.Refusal.{Refusal}
 
 -- the circuit has passed checks 1, 2 and 4 with some resets, which the walks do not see, and the lists are as long as they must be, or longer
 pub record WalkIn (l : Lent) (map out scratch : List ℕ) : Type 0 where
@@ -35,13 +34,13 @@ pub record WalkReady (l : Lent) (map out scratch : List ℕ) : Type 0 where
   pub room : length scratch ≡ scratch_words (circuit_of l)
 
 -- the walks have ended: the gates made, the map and the gates' words; or a refusal
-abbrev pub WalkEnds : Circuit → Out → Walked → List ℕ → List ℕ → Type 0
+abbrev pub WalkEnds : Circuit → Out → Result ℕ Refusal → List ℕ → List ℕ → Type 0
 WalkEnds C (reached w) r map out =
-    (r ≡ Reached (length w.made)) × (map ≡ w.images) × (out ≡ pair_words w.made ++ zeros (2 * (length C.gates - length w.made)))
-WalkEnds C (stopped why) r map out = r ≡ Stopped why
+    (r ≡ Ok (length w.made)) × (map ≡ w.images) × (out ≡ pair_words w.made ++ zeros (2 * (length C.gates - length w.made)))
+WalkEnds C (stopped why) r map out = r ≡ Err why
 
 -- the walks have ended in the fronts, and what stood past them stands there still
-pub record EndsIn (C : Circuit) (map out scratch : List ℕ) (o : Out) (r : Walked) (map' out' scratch' : List ℕ) : Type 0 where
+pub record EndsIn (C : Circuit) (map out scratch : List ℕ) (o : Out) (r : Result ℕ Refusal) (map' out' scratch' : List ℕ) : Type 0 where
   pub ends : WalkEnds C o r (take (map_words C) map') (take (2 * length C.gates) out')
   pub past_map : drop (map_words C) map' ≡ drop (map_words C) map
   pub past_out : drop (2 * length C.gates) out' ≡ drop (2 * length C.gates) out

@@ -8,14 +8,14 @@ use crate::shape::Shape;
 use lent::words::wide;
 use lit::Lit;
 
-// A literal on the stack, by the input that is under way.
+// A literal on the stack, by the input that is under way. An enum of its own: each of the two is a way to go on.
 #[derive(Clone, Copy)]
 pub enum Frame {
     First(Lit),
     Second(Lit),
 }
 
-// The frame as a word.
+// The frame as a word. No `From`, since the doubled code has to fit the word.
 fn word_of(frame: Frame) -> u32
     requires { (frame_of frame).lit < 2 ^ 31 }
     ensures { result ≡ word_of frame }
@@ -31,17 +31,16 @@ pub fn push(scratch: &mut [u32], shape: Shape, depth: usize, frame: Frame)
     requires { Room shape scratch.old × (depth < 2 * shape.gates) × ((frame_of frame).lit < 2 ^ 31) }
     ensures { scratch.new ≡ set scratch.old (stack_at shape + depth) (word_of frame) }
 {
-    let at = 3 * shape.vars + shape.gates + depth;
-    scratch[at] = word_of(frame);
+    scratch[shape.stack_at() + depth] = word_of(frame);
 }
 
 // The entry with `below` entries below it.
+#[tactic(auto, unfolding(crate::specs::Stack::in_word))]
 pub fn entry(scratch: &[u32], shape: Shape, below: usize) -> Frame
     requires { Room shape scratch.now × (below < 2 * shape.gates) }
     ensures { result ≡ in_word (get_or (stack_of shape scratch.now) below 0) }
 {
-    let at = 3 * shape.vars + shape.gates + below;
-    let word = scratch[at];
+    let word = scratch[shape.stack_at() + below];
     let lit = Lit::from_code(word / 2);
     if word % 2 == 0 {
         return Frame::First(lit);
@@ -50,6 +49,7 @@ pub fn entry(scratch: &[u32], shape: Shape, below: usize) -> Frame
 }
 
 // Whether the literal is the middle one of `depth` entries.
+#[tactic(auto, unfolding(crate::specs::Stack::middle_is))]
 pub fn middle(scratch: &[u32], shape: Shape, depth: usize, lit: Lit) -> bool
     requires { Room shape scratch.now × (depth ≤ 2 * shape.gates) }
     ensures { result ≡ middle_is (stack_of shape scratch.now) depth lit.0 }
@@ -57,7 +57,5 @@ pub fn middle(scratch: &[u32], shape: Shape, depth: usize, lit: Lit) -> bool
     if depth == 0 {
         return false;
     }
-    let at = 3 * shape.vars + shape.gates + depth / 2;
-    let word = scratch[at];
-    word / 2 == lit.code()
+    Lit::from_code(scratch[shape.stack_at() + depth / 2] / 2) == lit
 }

@@ -6,21 +6,11 @@ ghost use Rattle.aig.specs.Table.{gate_at};
 use lent::words::{place_of, wide};
 use lit::Lit;
 
-#[derive(Clone, Copy)]
-pub enum GateNumber {
-    Number(usize),
-    Nothing,
-}
-
 // The gate that defines a literal's variable, by its place in the gate list.
-pub fn gate_of(table: &[u32], lit: Lit) -> GateNumber
+#[tactic(auto, unfolding(crate::specs::Table::gate_at))]
+pub fn gate_of(table: &[u32], lit: Lit) -> Option<usize>
     requires { var lit.0 < length table.now }
     ensures { result ≡ gate_at table.now (var lit.0) }
 {
-    let i = place_of(lit);
-    let entry = wide(table[i]);
-    if entry < 2 {
-        return GateNumber::Nothing;
-    }
-    GateNumber::Number(entry - 2)
+    wide(table[place_of(lit)]).checked_sub(2)
 }

@@ -8,7 +8,6 @@ ghost use Rattle.aig.specs.Trie.{link_at, linked};
 ghost use Rattle.aig.specs.Store.{code_at};
 ghost use Rattle.aig.specs.Settle.{linked_if};
 
-use crate::fit::word;
 use crate::shape::Shape;
 use crate::store;
 use fold::Pair;
@@ -18,7 +17,8 @@ use lit::Lit;
 // A key has at most so many bits: V is at most 1,048,575, so that a code, at most 2V+1, is below 2^21; and the sign is one bit more.
 const BITS: usize = 22;
 
-// What a search comes to: the code that stands for a gate, or the free place where the gate is to be linked.
+// What a search comes to: the code that stands for a gate, or the free place where the gate is to be linked. An enum of its own, since both are ways
+// to go on: a place is no error.
 #[derive(Clone, Copy)]
 pub enum Search {
     Found(Lit),
@@ -26,11 +26,12 @@ pub enum Search {
 }
 
 // The code of gate k.
+#[tactic(auto, unfolding(circuit::specs::Walk::first_code))]
 pub fn code_at(shape: Shape, k: usize) -> Lit
     requires { (shape.sources ≤ 1048576) × (k ≤ 1048576) }
     ensures { result ≡ code_at shape k }
 {
-    Lit::from_code(word(2 * (shape.sources + 1) + 2 * k))
+    Lit::from_code((2 * (shape.sources + 1) + 2 * k) as u32)
 }
 
 // The link of gate k that the key's next bit leads to: the left one for 0, the right one for 1.
@@ -50,26 +51,22 @@ pub fn find(shape: Shape, pair: Pair, out: &[u32], scratch: &[u32]) -> Search
     requires { (shape.hash ≡ true) × CanSeek shape pair out.now scratch.now }
     ensures { Answers made_before shape pair out.now scratch.now result }
 {
-    let larger = pair.larger;
-    let smaller = pair.smaller;
-    let mut place = shape.vars + place_of(larger);
-    let mut key = 2 * smaller.code() + larger.code() % 2;
+    let mut place = shape.vars + place_of(pair.larger);
+    let mut key = 2 * pair.smaller.code() + pair.larger.code() % 2;
     for _ in 0..BITS {
-        let k = wide(scratch[place]);
-        if k == 0 {
+        let Some(k) = wide(scratch[place]).checked_sub(1) else {
             return Search::Free(place);
+        };
+        if store::is_at(out, k, pair) {
+            return Search::Found(code_at(shape, k));
         }
-        if store::is_at(out, k - 1, pair) {
-            return Search::Found(code_at(shape, k - 1));
-        }
-        place = link_of(shape, key, k - 1);
-        key = key / 2;
+        place = link_of(shape, key, k);
+        key /= 2;
     }
-    let k = wide(scratch[place]);
-    if k == 0 {
+    let Some(k) = wide(scratch[place]).checked_sub(1) else {
         return Search::Free(place);
-    }
-    Search::Found(code_at(shape, k - 1))
+    };
+    Search::Found(code_at(shape, k))
 }
 
 // Puts gate `made` in a free place.
@@ -77,7 +74,7 @@ pub fn link(shape: Shape, made: usize, place: usize, scratch: &mut [u32])
     requires { Room shape scratch.old × (made < shape.gates) × (place < stack_at shape) }
     ensures { scratch.new ≡ linked made place scratch.old }
 {
-    scratch[place] = word(made + 1);
+    scratch[place] = (made + 1) as u32;
 }
 
 // The same, if gates are to be found again.
@@ -87,6 +84,5 @@ pub fn link_if(shape: Shape, made: usize, place: usize, scratch: &mut [u32])
 {
     if shape.hash {
         link(shape, made, place, scratch);
-        return;
     }
 }

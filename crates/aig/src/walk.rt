@@ -7,12 +7,10 @@ ghost use Rattle.aig.specs.Turns.{Walking, Turns, Runs};
 
 use crate::shape::Shape;
 use crate::stack::Frame;
-use crate::table::GateNumber;
 use crate::trie::Search;
 use crate::{flat, stack, store, table, trie};
-use circuit::{Image, Refusal};
-use ending::Walked;
-use fold::{Already, Pair};
+use circuit::Refusal;
+use fold::Pair;
 use lent::map;
 use lit::Lit;
 
@@ -23,7 +21,7 @@ pub struct Walk {
     pub made: usize,
 }
 
-// Where the walk stands.
+// Where the walk stands. An enum of its own: a step answers the next state, and only two of the six are an end.
 #[derive(Clone, Copy)]
 pub enum State {
     // a literal is about to be walked
@@ -42,10 +40,7 @@ impl Walk {
     pub fn start(made: usize) -> Walk
         ensures { result ≡ numbers 0 made }
     {
-        Walk {
-            depth: 0,
-            made: made,
-        }
+        Walk { depth: 0, made }
     }
 
     fn deeper(self) -> Walk
@@ -54,7 +49,7 @@ impl Walk {
     {
         Walk {
             depth: self.depth + 1,
-            made: self.made,
+            ..self
         }
     }
 
@@ -64,7 +59,7 @@ impl Walk {
     {
         Walk {
             depth: self.depth - 1,
-            made: self.made,
+            ..self
         }
     }
 
@@ -73,8 +68,8 @@ impl Walk {
         ensures { result ≡ numbers self.depth (self.made + 1) }
     {
         Walk {
-            depth: self.depth,
             made: self.made + 1,
+            ..self
         }
     }
 
@@ -91,15 +86,13 @@ impl Walk {
         ensures { (out : List ℕ) → Turns shape gates.now (State.Transfer self lit) map.now out scratch.old result
             map.now out scratch.new }
     {
-        let image = map::image(map, lit);
-        if let Image::Code(_t) = image {
+        if map::image(map, lit).is_some() {
             return State::Return(self);
         }
         if stack::middle(scratch, shape, self.depth, lit) {
             return State::Stopped(Refusal::Cycle(lit));
         }
-        let number = table::gate_of(scratch, lit);
-        let GateNumber::Number(k) = number else {
+        let Some(k) = table::gate_of(scratch, lit) else {
             return State::Stopped(Refusal::Undefined(lit));
         };
         stack::push(scratch, shape, self.depth, Frame::First(lit));
@@ -112,8 +105,7 @@ impl Walk {
         ensures { (map out : List ℕ) → Turns shape gates.now (State.First self lit) map out scratch.old result map out
             scratch.new }
     {
-        let number = table::gate_of(scratch, lit);
-        let GateNumber::Number(k) = number else {
+        let Some(k) = table::gate_of(scratch, lit) else {
             return State::Stopped(Refusal::Undefined(lit));
         };
         stack::push(scratch, shape, self.depth, Frame::Second(lit));
@@ -134,18 +126,15 @@ impl Walk {
         ensures { Turns shape gates.now (State.Second self lit) map.old out.old scratch.old result
             map.new out.new scratch.new }
     {
-        let number = table::gate_of(scratch, lit);
-        let GateNumber::Number(k) = number else {
+        let Some(k) = table::gate_of(scratch, lit) else {
             return State::Stopped(Refusal::Undefined(lit));
         };
         let first = flat::first_of(gates, k);
-        let image = map::image(map, first);
-        let Image::Code(x) = image else {
+        let Some(x) = map::image(map, first) else {
             return State::Stopped(Refusal::Undefined(first));
         };
         let second = flat::second_of(gates, k);
-        let image = map::image(map, second);
-        let Image::Code(y) = image else {
+        let Some(y) = map::image(map, second) else {
             return State::Stopped(Refusal::Undefined(second));
         };
         self.settle(
@@ -176,8 +165,7 @@ impl Walk {
           scratch = scratch.new;
         }) }
     {
-        let search = already(shape, pair, out, scratch);
-        match search {
+        match already(shape, pair, out, scratch) {
             Search::Found(t) => {
                 map::insert(map, output, t);
                 State::Return(self)
@@ -201,8 +189,7 @@ impl Walk {
             return State::Reached(self);
         }
         let walk = self.shallower();
-        let frame = stack::entry(scratch, shape, walk.depth);
-        match frame {
+        match stack::entry(scratch, shape, walk.depth) {
             Frame::First(lit) => State::First(walk, lit),
             Frame::Second(lit) => State::Second(walk, lit),
         }
@@ -214,11 +201,10 @@ fn already(shape: Shape, pair: Pair, out: &[u32], scratch: &[u32]) -> Search
     requires { CanSeek shape pair out.now scratch.now }
     ensures { Answers already_in shape pair out.now scratch.now result }
 {
-    let folded = pair.folded_if(shape.fold);
-    match folded {
-        Already::Code(t) => Search::Found(t),
-        Already::New => found_if(shape, pair, out, scratch),
+    if let Some(t) = pair.folded_if(shape.fold) {
+        return Search::Found(t);
     }
+    found_if(shape, pair, out, scratch)
 }
 
 // The same without folding: a gate is looked for where hashing is on.
@@ -241,32 +227,20 @@ pub fn run(
     map: &mut [u32],
     out: &mut [u32],
     scratch: &mut [u32],
-) -> Walked
+) -> Result<usize, Refusal>
     requires { Walking shape gates.now start map.old out.old scratch.old }
     ensures { Runs shape gates.now start map.old out.old scratch.old result map.new
         out.new scratch.new }
 {
     let mut state = start;
     loop {
-        match state {
-            State::Transfer(walk, lit) => {
-                state = walk.transfer(shape, lit, gates, map, scratch);
-            }
-            State::First(walk, lit) => {
-                state = walk.first_input(shape, lit, gates, scratch);
-            }
-            State::Second(walk, lit) => {
-                state = walk.second_input(shape, lit, gates, map, out, scratch);
-            }
-            State::Return(walk) => {
-                state = walk.back(shape, scratch);
-            }
-            State::Reached(walk) => {
-                return Walked::Reached(walk.made);
-            }
-            State::Stopped(why) => {
-                return Walked::Stopped(why);
-            }
-        }
+        state = match state {
+            State::Transfer(walk, lit) => walk.transfer(shape, lit, gates, map, scratch),
+            State::First(walk, lit) => walk.first_input(shape, lit, gates, scratch),
+            State::Second(walk, lit) => walk.second_input(shape, lit, gates, map, out, scratch),
+            State::Return(walk) => walk.back(shape, scratch),
+            State::Reached(walk) => return Ok(walk.made),
+            State::Stopped(why) => return Err(why),
+        };
     }
 }

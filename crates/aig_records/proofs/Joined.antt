@@ -1,18 +1,20 @@
 -- The checks, the records laid flat, and the rest come to the outcome with records. The checks on lengths and on the records say what those on the
 -- records laid flat say; where they pass, no refusal that writes nothing can be answered; and the words that the records took are the first of the
 -- last list. Assumes nothing.
+use Rattle.std.specs.Prelude.{Option, Some, None, Ok, Err}
+use Rattle.std.specs.Option.{option_or}
 use Prim.Native.Nat.{ℕ, ◌+◌, ◌*◌, ◌/◌, ◌%◌, ◌≤◌}
 use mathlib.Core.Path.{◌≡◌, refl, sym, ap, ap₂, ◌∙◌, subst⁻¹}
 use mathlib.Core.Logic.{inl}
 use mathlib.Core.Bool.{Bool, true, false, not, cond, ◌&&◌, true≢false}
-use mathlib.Core.Option.{Option, none, some}
 use mathlib.Core.List.{List, [], ◌∷◌, ◌++◌}
 use native.Mathlib.Omega.{arith}
 use lib.Dec.{ltb}
 use borrow.Author.Tests.{ltb-false}
-use lib.ListN.{length, take, drop, length-append, length-drop, length-replicate}
+use lib.ListN.{length, take, drop, length-replicate}
 use lib.Seq.{take_at, drop_at, take-length}
 use Rattle.lit.specs.Code.{literal}
+use Rattle.lit.specs.declared.Lit.{Lit}
 use Rattle.circuit.specs.declared.CircuitRecord.{CircuitRecord}
 use Rattle.circuit.specs.declared.Refusal.{Refusal}
 use Rattle.circuit.specs.declared.Refusal.TheVariants as Refusals
@@ -26,17 +28,14 @@ use Rattle.circuit.proofs.Lists.{In-right}
 use Rattle.circuit.proofs.Checks.{no_stray}
 use Rattle.circuit.proofs.Outcome.{onto_long, Concluded, concluded, bounds, all_reset_lem, refusal_of, success_of, conclusion_of}
 use Rattle.aig_records.specs.declared.GateRecord.{GateRecord}
-use Rattle.checks.specs.declared.Check.{Check}
-use Rattle.checks.specs.declared.Check.TheVariants.{Passed, Failed}
-use Rattle.aig_records.specs.declared.verdict.Checked.{Checked}
-use Rattle.aig_records.specs.declared.verdict.Rooms.{Rooms}
 use Rattle.aig_records.specs.Records.{record_words, flat_of, laid_onto}
-use Rattle.checks.specs.Checks.{found, fail_if, sizing, lengths_of}
+use Rattle.checks.specs.declared.Lengths.{Lengths}
+use Rattle.checks.specs.Checks.{Check, passed, found, fail_if, sizing, lengths_of}
 use Rattle.checks.proofs.Sizes.{sizing_is}
-use Rattle.aig_records.specs.Checks.{lengths_with, or_else, first_in, over_in, over_all, verdict, planned, checked_of}
+use Rattle.checks.proofs.Offenders.{over-append}
+use Rattle.aig_records.specs.Checks.{first_in, over_all, verdict, checked_of}
 use Rattle.aig_records.specs.Outcome.{FlatOutcome, with_flat, flat_short, flat_after, outcome_of_records, finished}
 use Rattle.aig_records.proofs.Flat.{flat_length}
-use Rattle.aig_records.proofs.Overs.{over-append}
 
 -- records laid flat, as gates
 flat_count : (gs : List GateRecord) → length (gates_of (flat_of gs)) ≡ length gs
@@ -104,11 +103,11 @@ module _ (l : Lent) (flat : List ℕ) where
   unfolding conclusion
   stops_3 p q r = rw (p, q, r)
 
-  stops_4 : Fits l → (c : ℕ) → first_over (2 * C.top + 1) (codes C) ≡ some c → conclusion l ≡ stopped (Over (literal c))
+  stops_4 : Fits l → (c : ℕ) → first_over (2 * C.top + 1) (codes C) ≡ Some c → conclusion l ≡ stopped (Over (literal c))
   unfolding renumber
   stops_4 f c e = conclusion_of l f ∙ rw e
 
-  stops_22 : Fits l → first_over (2 * C.top + 1) (codes C) ≡ none → (c : ℕ) → first_stray l.states l.resets ≡ some c
+  stops_22 : Fits l → first_over (2 * C.top + 1) (codes C) ≡ None → (c : ℕ) → first_stray l.states l.resets ≡ Some c
       → conclusion l ≡ stopped (Reset (literal c))
   unfolding renumber
   stops_22 f e c s = conclusion_of l f ∙ rw (e, s)
@@ -125,35 +124,50 @@ module _ (l : Lent) (flat : List ℕ) where
       go : (b : Bool) → too_big C ≡ b → (u : Bool) → misshapen l ≡ u → (s : Bool) → too_short l C ≡ s → (f : Bool) → (o : Option ℕ)
           → first_over (2 * C.top + 1) (codes C) ≡ o → (t : Option ℕ) → first_stray l.states l.resets ≡ t
           → cond (not b && not u && f) (with_flat (untouched l Short) flat) plain
-          ≡ finished (verdict (fail_if b TooBig (fail_if u Misshapen (fail_if s Short Passed))) f (found o) (found t)) l flat
+          ≡ finished (verdict (fail_if b TooBig (fail_if u Misshapen (fail_if s Short passed))) f (found o) (found t)) l flat
       go true p u q s r f o e t h = early TooBig refl (stops_1 p)
       go false p true q s r f o e t h = early Misshapen refl (stops_2 p q)
       go false p false q true r true o e t h = refl
       go false p false q true r false o e t h = early Short refl (stops_3 p q r)
       go false p false q false r true o e t h = refl
-      go false p false q false r false (some c) e t h = early (Over (literal c)) refl (stops_4 (record { one = p; two = q; three = r }) c e)
-      go false p false q false r false none e (some c) h = early (Reset (literal c)) refl (stops_22 (record { one = p; two = q; three = r }) e c h)
-      go false p false q false r false none e none h =
+      go false p false q false r false (Some c) e t h = early (Over (literal c)) refl (stops_4 (record { one = p; two = q; three = r }) c e)
+      go false p false q false r false None e (Some c) h = early (Reset (literal c)) refl (stops_22 (record { one = p; two = q; three = r }) e c h)
+      go false p false q false r false None e None h =
           ap (with_flat (outcome l))
           (cleared-after l flat (record { fits = record { one = p; two = q; three = r }; four = e; twenty_two = h }))
 
+-- where the checks pass, the records' codes have room
+pub room_for : (circuit : CircuitRecord) (n : Lengths) (room : ℕ) (inputs states nexts resets : List ℕ) (gates : List GateRecord) (roots : List ℕ) (r : Check)
+    → r ≡ checked_of circuit n room inputs states nexts resets gates roots → r ≡ passed → length gates * 3 ≤ room
+unfolding checked_of
+room_for circuit n room inputs states nexts resets gates roots r e p =
+    go (sizing circuit n) (ltb room (3 * length gates)) refl (over_all circuit.top inputs gates states nexts resets roots) (sym e ∙ p)
+  where
+    go : (c : Check) (s : Bool) → ltb room (3 * length gates) ≡ s → (o : Option Lit) → verdict c s o (found (first_stray states resets)) ≡ passed → length gates * 3 ≤ room
+    go (Err why) s q o k = absurd (let z : ◌≡◌ {A = ℕ} 0 1 = cc in omega arith)
+    go (Ok u) true q o k = absurd (let z : ◌≡◌ {A = ℕ} 0 1 = cc in omega arith)
+    go (Ok u) false q o k = omega (arith, ltb-false room (3 * length gates) q)
+
 module _ (circuit : CircuitRecord) (inputs states nexts resets : List ℕ) (gates : List GateRecord)
     (roots map next_images reset_images root_images gates_out scratch flat : List ℕ) where
-  abbrev rooms : Rooms
-  rooms =
+  -- the lengths of all lists; records leave no word over
+  abbrev lengths : ℕ → ℕ → Lengths
+  lengths count left_over =
       record {
+        inputs = length inputs;
+        states = length states;
+        nexts = length nexts;
+        resets = length resets;
+        gates = count;
+        left_over = left_over;
+        roots = length roots;
         map = length map;
         next_images = length next_images;
         reset_images = length reset_images;
         root_images = length root_images;
         gates_out = length gates_out;
-        scratch = length
-            scratch;
-        flat = length flat;
+        scratch = length scratch;
       }
-
-  abbrev ck : Checked
-  ck = checked_of circuit inputs states nexts resets roots (length gates) (over_in circuit.top gates) rooms
 
   -- what is lent, with the gates flat
   abbrev lent : List ℕ → Lent
@@ -163,93 +177,58 @@ module _ (circuit : CircuitRecord) (inputs states nexts resets : List ℕ) (gate
   l = lent (flat_of gates)
 
   -- the lengths are those of the records laid flat
-  lengths_are : lengths_with inputs states nexts resets roots (length gates) rooms ≡ lengths_of l
+  lengths_are : lengths (length gates) 0 ≡ lengths_of l
   lengths_are =
       let third : length gates ≡ length (flat_of gates) / 3 = omega (arith, flat_length gates) in
       let none_left : 0 ≡ length (flat_of gates) % 3 = omega (arith, flat_length gates) in
-      ap₂ (λ (g k : ℕ). record {
-        inputs = length inputs;
-        states = length states;
-        nexts = length nexts;
-        resets = length resets;
-        gates = g;
-        left_over = k;
-        roots = length roots;
-        map = length map;
-        next_images = length next_images;
-        reset_images = length reset_images;
-        root_images = length root_images;
-        gates_out = length gates_out;
-        scratch = length scratch;
-      }) third none_left
+      ap₂ lengths third none_left
 
   short_is : ltb (length flat) (3 * length gates) ≡ ltb (length flat) (length (flat_of gates))
   short_is =
       let words : 3 * length gates ≡ length (flat_of gates) = omega (arith, flat_length gates) in ap (λ (k : ℕ). ltb (length flat) k) words
 
-  first-is : over_all circuit.top.0 inputs (over_in circuit.top gates) states nexts resets roots ≡ found
-      (first_over (2 * circuit.top.0 + 1) (codes (circuit_of l)))
+  first-is : over_all circuit.top inputs gates states nexts resets roots ≡ found (first_over (2 * circuit.top.0 + 1) (codes (circuit_of l)))
   unfolding codes
   first-is =
       let t = circuit.top.0 in
+      let b = 2 * t + 1 in
       sym
-      (over-append t inputs (gate_codes (gates_of (flat_of gates)) ++ (latch_codes states nexts resets ++ roots))
-      ∙ ap (or_else (first_in t inputs))
-      (over-append t (gate_codes (gates_of (flat_of gates))) (latch_codes states nexts resets ++ roots)
-      ∙ ap₂ or_else (ap (first_in t) (flat_codes gates)) (over-append t (latch_codes states nexts resets) roots)))
+      (over-append b inputs (gate_codes (gates_of (flat_of gates)) ++ (latch_codes states nexts resets ++ roots))
+      ∙ ap (option_or (first_in t inputs))
+      (over-append b (gate_codes (gates_of (flat_of gates))) (latch_codes states nexts resets ++ roots)
+      ∙ ap₂ option_or (ap (first_in t) (flat_codes gates)) (over-append b (latch_codes states nexts resets) roots)))
 
   abbrev says : Check
   says =
       verdict (sizing circuit (lengths_of l)) (ltb (length flat) (length (flat_of gates))) (found (first_over (2 * circuit.top.0 + 1) (codes (circuit_of l))))
       (found (first_stray states resets))
 
-  checked_is : ck ≡ planned (length gates) says
+  checked_is : checked_of circuit (lengths (length gates) 0) (length flat) inputs states nexts resets gates roots ≡ says
   unfolding checked_of
-  checked_is = λ i. planned (length gates) (verdict (sizing circuit (lengths_are i)) (short_is i) (first-is i) (found (first_stray states resets)))
+  checked_is = λ i. verdict (sizing circuit (lengths_are i)) (short_is i) (first-is i) (found (first_stray states resets))
 
-  -- where they pass, the records' codes have room
-  room_for : says ≡ Passed → length (flat_of gates) ≤ length flat
-  room_for = go (sizing circuit (lengths_of l)) (ltb (length flat) (length (flat_of gates))) refl
-    where
-      go : (c : Check) (s : Bool) → ltb (length flat) (length (flat_of gates)) ≡ s
-          → verdict c s (found (first_over (2 * circuit.top.0 + 1) (codes (circuit_of l)))) (found (first_stray states resets)) ≡ Passed → length (flat_of gates) ≤ length flat
-      go (Failed why) s e k = absurd (let z : ◌≡◌ {A = ℕ} 0 1 = cc in omega arith)
-      go Passed true e k = absurd (let z : ◌≡◌ {A = ℕ} 0 1 = cc in omega arith)
-      go Passed false e k = ltb-false (length flat) (length (flat_of gates)) e
+  -- by what the checks answered
+  module _ (r : Check) (e : r ≡ checked_of circuit (lengths (length gates) 0) (length flat) inputs states nexts resets gates roots) where
+    as_judged : finished r l flat ≡ outcome_of_records l flat
+    as_judged = ap (λ (c : Check). finished c l flat) (e ∙ checked_is) ∙ sym (judged l flat)
 
-  -- what is left to do finds the records laid flat
-  laid_is : (c : Check) → (c ≡ Passed → length (flat_of gates) ≤ length flat) → finished (planned (length gates) c).check
-      (lent (take ((planned (length gates) c).laid * 3) (laid_onto (planned (length gates) c).laid gates flat)))
-      (laid_onto (planned (length gates) c).laid gates flat) ≡ finished c l flat
-  laid_is (Failed why) room = refl
-  laid_is Passed room =
-      let fits = room refl in
-      let k = length gates * 3 in
-      let m = length (flat_of gates) in
-      let zs : List ℕ = laid_onto (length gates) gates flat in
-      let long : m ≡ k = flat_length gates in
-      let all : zs ≡ flat_of gates ++ drop k flat = ap (λ (gs : List GateRecord). flat_of gs ++ drop k flat) (take-length gates) in
-      let front : take k zs ≡ flat_of gates = ap (take k) all ∙ take_at (flat_of gates) (drop k flat) k long in
-      let as_long : length (zeros m) ≡ k = length-replicate m 0 ∙ long in
-      let zs-long : length zs ≡ length flat
-      = ap length all ∙ omega (arith, length-append (flat_of gates) (drop k flat), length-drop k flat, long) in
-      let back : drop (length (zeros m)) zs ≡ drop (length (zeros m)) flat =
-      (ap (λ (j : ℕ). drop j zs) as_long ∙ ap (drop k) all ∙ drop_at (flat_of gates) (drop k flat) k long ∙ sym (ap (λ (j : ℕ). drop j flat) as_long)) in
-      ap (λ (gs : List ℕ). finished Passed (lent gs) zs) front
-      ∙ ap (with_flat (outcome l))
-      (onto_long (zeros m) zs (omega (arith, as_long)) ∙ ap (λ (ws : List ℕ). zeros m ++ ws) back ∙ sym (onto_long (zeros m) flat (omega (arith, as_long))))
+    -- they refuse: nothing is written
+    pub refused_at_once : (why : Refusal) → r ≡ Err why → with_flat (untouched l why) flat ≡ outcome_of_records l flat
+    refused_at_once why p = ap (λ (c : Check). finished c l flat) (sym p) ∙ as_judged
 
-  pub joined : finished ck.check (lent (take (ck.laid * 3) (laid_onto ck.laid gates flat))) (laid_onto ck.laid gates flat) ≡ outcome_of_records l flat
-  joined =
-      ap (λ (k : Checked). finished k.check (lent (take (k.laid * 3) (laid_onto k.laid gates flat))) (laid_onto k.laid gates flat)) checked_is
-      ∙ laid_is says room_for ∙ sym (judged l flat)
-
--- what is left where the checks have passed: the flat entry on the front of the list, which is then cleared
-pub finish_passed : (l : Lent) (flat : List ℕ) (n : ℕ) → length l.gates ≡ n → n ≤ length flat → (check : Check) → check ≡ Passed → (o : Outcome)
-    → o ≡ outcome l → (ws : List ℕ) → ws ≡ zeros (length l.gates) → with_flat o (ws ++ drop n flat) ≡ finished check l flat
-finish_passed l flat n long fits check passed o answered ws cleared =
-    let as_long : length (zeros (length l.gates)) ≡ n = length-replicate (length l.gates) 0 ∙ long in
-    ap₂ with_flat answered
-    (ap₂ (λ (front back : List ℕ). front ++ back) cleared (ap (λ (k : ℕ). drop k flat) (sym as_long))
-    ∙ sym (onto_long (zeros (length l.gates)) flat (omega (arith, as_long))))
-    ∙ sym (ap (λ (c : Check). finished c l flat) passed)
+    module _ (p : r ≡ passed) where
+      -- they pass: the flat entry on the front of the list, which is then cleared, leaves the outcome with records
+      pub joined : (zs : List ℕ) → zs ≡ laid_onto (length gates) gates flat → (o : Outcome) → o ≡ outcome (lent (take (length gates * 3) zs))
+          → (ws : List ℕ) → ws ≡ zeros (length (take (length gates * 3) zs)) → with_flat o (ws ++ drop (length gates * 3) zs) ≡ outcome_of_records l flat
+      joined zs laid o answered ws cleared =
+          let k = length gates * 3 in
+          let long : length (flat_of gates) ≡ k = flat_length gates in
+          let all : zs ≡ flat_of gates ++ drop k flat = laid ∙ ap (λ (gs : List GateRecord). flat_of gs ++ drop k flat) (take-length gates) in
+          let front : take k zs ≡ flat_of gates = ap (take k) all ∙ take_at (flat_of gates) (drop k flat) k long in
+          let back : drop k zs ≡ drop k flat = ap (drop k) all ∙ drop_at (flat_of gates) (drop k flat) k long in
+          let as_long : k ≡ length (zeros (length (flat_of gates))) = sym (length-replicate (length (flat_of gates)) 0 ∙ long) in
+          ap₂ with_flat (answered ∙ ap (λ (gs : List ℕ). outcome (lent gs)) front)
+          (ap₂ (λ (a b : List ℕ). a ++ b) (cleared ∙ ap (λ (gs : List ℕ). zeros (length gs)) front) (back ∙ ap (λ (j : ℕ). drop j flat) as_long)
+          ∙ sym (onto_long (zeros (length (flat_of gates))) flat
+          (omega (arith, as_long, room_for circuit _ _ inputs states nexts resets gates roots r e p))))
+          ∙ ap (λ (c : Check). finished c l flat) (sym p) ∙ as_judged

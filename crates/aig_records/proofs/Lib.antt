@@ -1,5 +1,3 @@
 pub mod Flat
-pub mod Overs
-pub mod Judging
 pub mod Joined
 pub mod Theorems

@@ -1,6 +1,7 @@
 -- What renumbering with gate records promises, in the words of a caller: it is renumbering of the records laid flat, the last lent list is left or
 -- cleared, and the
 -- contract determines the answer and all seven lists. Assumes nothing.
+use Rattle.std.specs.Prelude.{Err}
 use Prim.Native.Nat.{ℕ, ◌<◌, ◌≤◌}
 use mathlib.Core.Path.{◌≡◌, refl, sym, ap, subst⁻¹, ◌∙◌}
 use mathlib.Core.Bool.{Bool, true, false, not, cond, ◌&&◌}
@@ -19,7 +20,6 @@ use denote.Triple.Entry.{Res}
 use Rattle.lit.specs.Code.{literal}
 use Rattle.circuit.specs.declared.Refusal.{Refusal}
 use Rattle.circuit.specs.declared.Refusal.TheVariants.{Short}
-use Rattle.circuit.specs.declared.Answer.TheVariants.{Refused}
 use Rattle.circuit.specs.Outcome.{Lent, circuit_of, too_big, misshapen, onto, zeros, untouched, is_early, outcome, outcome_of}
 use Rattle.circuit.specs.Claims.{Passes}
 use Rattle.circuit.specs.Demands.{Demands}
@@ -28,6 +28,7 @@ use Rattle.circuit.proofs.Refusing.{tested}
 use Rattle.circuit.proofs.Outcome.{refusal_from}
 use Rattle.aig_records.specs.Records.{flat_of}
 use Rattle.aig_records.specs.Outcome.{FlatOutcome, with_flat, flat_short, flat_after, outcome_of_records}
+use Rattle.circuit.specs.Passed.{left_in}
 use Rattle.aig_records.specs.Determined.{DeterminesSeen}
 use Rattle.aig_records.proofs.Joined.{early, cleared-after}
 use Rattle.aig_records.specs.contracts.renumber_records as entry
@@ -63,7 +64,7 @@ module _ (l : Lent) (flat : List ℕ) where
   short_of_room p q h = rw (p, q, lt-ltb (length flat) (length l.gates) h)
 
   -- 1 to 4 and 22 write nothing, the last list included
-  pub early_untouched : length l.gates ≤ length flat → (r : Refusal) → is_early r ≡ true → (outcome l).answer ≡ Refused r
+  pub early_untouched : length l.gates ≤ length flat → (r : Refusal) → is_early r ≡ true → (outcome l).answer ≡ Err r
       → outcome_of_records l flat ≡ with_flat (untouched l r) flat
   early_untouched h r n e = with_room h ∙ early l flat r n (refusal_from l r e)
 
@@ -83,10 +84,8 @@ both_equal 𝓤 x y v =
     (λ q. fact_i 𝓤 (x ≡ y) (conj 𝓤 (fact 𝓤 (x ≡ v)) (fact 𝓤 (y ≡ v))) (p ∙ sym q)))
 
 -- the answer and all seven lists, as a caller sees them
-abbrev seen : (κs : Lfts 13) → Res entry.signature κs → AtExit entry.ended κs → FlatOutcome
-seen κs r e =
-    with_flat (outcome_of r e.1.1.1.1.1.1.1.0.now e.1.1.1.1.1.1.1.1.0.now e.1.1.1.1.1.1.1.1.1.0.now
-    e.1.1.1.1.1.1.1.1.1.1.0.now e.1.1.1.1.1.1.1.1.1.1.1.0.now e.1.1.1.1.1.1.1.1.1.1.1.1.0.now) e.1.1.1.1.1.1.1.1.1.1.1.1.1.0.now
+abbrev seen : (κs : Lfts 4) → Res entry.signature κs → AtExit entry.ended κs → FlatOutcome
+seen κs r e = with_flat (left_in r e.1.1.0) e.1.1.1.0.now
 
 pub renumber_records_determined : {M : Type 1} {𝓤 : Ura M} (𝓛 : Logic 𝓤) (mem : Memory → SProp 𝓤) (run : Routine → Fun 𝓤)
     → DeterminesSeen 𝓤 entry.ended (entry.clauses 𝓛 mem run) seen

@@ -2,3 +2,4 @@ pub mod Records
 pub mod Checks
 pub mod Outcome
 pub mod Determined
+pub mod Passed

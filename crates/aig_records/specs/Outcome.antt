@@ -1,11 +1,9 @@
 -- The whole of renumbering where the gates are records: as with the records laid flat, and what the last lent list is afterwards. Assumes nothing.
-use Rattle.std.specs.Prelude.{ℕ, Bool, cond, not, ◌&&◌, List, ltb, length}
+use Rattle.std.specs.Prelude.{ℕ, Bool, cond, not, ◌&&◌, List, ltb, length, Ok, Err}
 use Rattle.circuit.specs.declared.Refusal.TheVariants.{Short}
-use Rattle.circuit.specs.declared.Answer.{Answer}
-use Rattle.circuit.specs.declared.Answer.TheVariants.{Renumbered, Refused}
+use Rattle.circuit.specs.Answer.{Answer}
 use Rattle.circuit.specs.Outcome.{Lent, Outcome, circuit_of, too_big, misshapen, onto, zeros, untouched, is_early, outcome}
-use Rattle.checks.specs.declared.Check.{Check}
-use Rattle.checks.specs.declared.Check.TheVariants.{Passed, Failed}
+use Rattle.checks.specs.Checks.{Check}
 
 -- the outcome, and the last list afterwards
 pub record FlatOutcome : Type 0 where
@@ -23,8 +21,8 @@ flat_short l flat = not (too_big (circuit_of l)) && not (misshapen l) && ltb (le
 
 -- words of it that the records took are 0 afterwards, unless nothing was written
 abbrev pub flat_after : Lent → Answer → List ℕ → List ℕ
-flat_after l (Renumbered s) flat = onto (zeros (length l.gates)) flat
-flat_after l (Refused why) flat = cond (is_early why) flat (onto (zeros (length l.gates)) flat)
+flat_after l (Ok s) flat = onto (zeros (length l.gates)) flat
+flat_after l (Err why) flat = cond (is_early why) flat (onto (zeros (length l.gates)) flat)
 
 -- the whole
 unfoldable pub outcome_of_records : Lent → List ℕ → FlatOutcome
@@ -32,5 +30,5 @@ outcome_of_records l flat = cond (flat_short l flat) (with_flat (untouched l Sho
 
 -- what is left to do once the checks are made and the records laid flat
 abbrev pub finished : Check → Lent → List ℕ → FlatOutcome
-finished Passed l flat = with_flat (outcome l) (onto (zeros (length l.gates)) flat)
-finished (Failed why) l flat = with_flat (untouched l why) flat
+finished (Ok u) l flat = with_flat (outcome l) (onto (zeros (length l.gates)) flat)
+finished (Err why) l flat = with_flat (untouched l why) flat

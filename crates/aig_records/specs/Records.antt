@@ -2,13 +2,8 @@
 use Rattle.std.specs.Prelude.{ℕ, ◌*◌, List, [], ◌∷◌, ◌++◌, drop, take}
 use Rattle.lit.specs.Code.{literal}
 use Rattle.aig_records.specs.declared.GateRecord.{GateRecord}
-use Rattle.aig_records.specs.declared.records.Codes.{Codes}
 
--- the codes of a gate
-abbrev pub codes_of : GateRecord → Codes
-codes_of g = record { output = g.output.0; first = g.first.0; second = g.second.0 }
-
--- the same as words: its output, its first input, its second
+-- the codes of a gate as words: its output, its first input, its second
 abbrev pub record_words : GateRecord → List ℕ
 record_words g = g.output.0 ∷ g.first.0 ∷ g.second.0 ∷ []
 

@@ -1,8 +1,6 @@
 // The parts of a question's line: a word, numbers in decimal, and bytes in hexadecimal, a space between each two.
 ghost use Rattle.std.specs.Prelude.{◌≤◌, length, ◌≡◌, take};
 
-use token::Token;
-
 // A number, and the place after it and a space.
 #[derive(Clone, Copy)]
 pub struct Field {
@@ -31,11 +29,11 @@ pub fn after_word(s: &[u8]) -> usize {
 // The number at a place; 0 where none stands there.
 pub fn number(s: &[u8], at: usize) -> Field {
     match token::uint(s, at) {
-        Token::Value { value, used } => Field {
-            value,
-            next: sum(sum(at, used), 1),
+        Ok(number) => Field {
+            value: number.value,
+            next: sum(sum(at, number.used), 1),
         },
-        Token::Refused { why: _, place: _ } => Field { value: 0, next: at },
+        Err(_) => Field { value: 0, next: at },
     }
 }
 

@@ -2,7 +2,7 @@
 // `W number words bytes`; and any text.
 use std::io;
 use std::io::Stdout;
-use token::{PairToken, Reason, Token};
+use token::{Inputs, Number, Refused};
 
 // Standard output, and what writing came to so far: after a write that failed nothing more is written.
 #[derive(Drop)]
@@ -25,36 +25,32 @@ impl Output {
     }
 }
 
-pub fn token(to: &mut Output, t: Token) {
+pub fn token(to: &mut Output, t: Result<Number, Refused>) {
     match t {
-        Token::Value { value, used } => {
+        Ok(read) => {
             text(to, b"V ");
-            number(to, value);
-            last(to, used as u64);
+            number(to, read.value);
+            last(to, read.used as u64);
         }
-        Token::Refused { why, place } => refused(to, why, place),
+        Err(why) => refused(to, why),
     }
 }
 
-pub fn pair(to: &mut Output, t: PairToken) {
+pub fn pair(to: &mut Output, t: Result<Inputs, Refused>) {
     match t {
-        PairToken::Inputs {
-            first,
-            second,
-            used,
-        } => {
+        Ok(inputs) => {
             text(to, b"P ");
-            number(to, first);
+            number(to, inputs.first);
             text(to, b" ");
-            number(to, second);
-            last(to, used as u64);
+            number(to, inputs.second);
+            last(to, inputs.used as u64);
         }
-        PairToken::PairRefused { why, place } => refused(to, why, place),
+        Err(why) => refused(to, why),
     }
 }
 
-fn refused(to: &mut Output, why: Reason, place: usize) {
-    refusal(to, token::number(why) as u64, place as u64);
+fn refused(to: &mut Output, refused: Refused) {
+    refusal(to, u32::from(refused.why) as u64, refused.place as u64);
 }
 
 pub fn refusal(to: &mut Output, n: u64, place: u64) {

@@ -11,8 +11,8 @@ use Rattle.lit.specs.Code.{literal}
 use Rattle.circuit.specs.declared.Refusal.{Refusal}
 use Rattle.circuit.specs.declared.Refusal.TheVariants as R
 use Rattle.circuit.specs.declared.Summary.{Summary}
-use Rattle.circuit.specs.declared.Answer.{Answer}
-use Rattle.circuit.specs.declared.Answer.TheVariants.{Renumbered, Refused}
+use Rattle.std.specs.Prelude.{Ok, Err}
+use Rattle.circuit.specs.Answer.{Answer}
 use Rattle.circuit.specs.Graph.{In, Gate, Graph}
 use Rattle.circuit.specs.Walk.{stopped}
 use Rattle.circuit.specs.Circuit.{Circuit, graph, codes, renumber}
@@ -36,7 +36,7 @@ use Rattle.binary.proofs.Across.{result_sound}
 use Rattle.binary.proofs.Archive.{stored}
 use Rattle.ascii_lines.proofs.Loops.{words_length}
 use Rattle.ascii.specs.Text.{Text, circuit_in, read_text}
-use Rattle.ascii.specs.Promise.{room_of, Outcome, left, outcome}
+use Rattle.ascii.specs.Promise.{room_of, numbers, Outcome, left, outcome}
 use Rattle.ascii.specs.Known.{Known}
 use Rattle.ascii.specs.Chain.{Lending, handed, Enough, text_graph, KeepsText, Returns, Chain, refused, unordered, archived}
 use Rattle.ascii.proofs.Known.{read_known, known_passes}
@@ -52,7 +52,7 @@ none_first bound cs c k b = omega (arith, b c (subst⁻¹ (In c) k.splits (in_mi
 -- of a text that was read
 
 module _ (t : Text) (used : ℕ) (g : Lending) (known : Known (room_of g.text) t) (within : Within (circuit_in t g.trim g.hash g.fold))
-    (bounded : Bounded (circuit_in t g.trim g.hash g.fold)) (enough : Enough (left (got t used) g.text).read g) where
+    (bounded : Bounded (circuit_in t g.trim g.hash g.fold)) (enough : Enough (numbers (left (got t used) g.text).read) g) where
   abbrev l : Lent
   l = handed (left (got t used) g.text) g
 
@@ -123,10 +123,10 @@ module _ (t : Text) (used : ℕ) (g : Lending) (known : Known (room_of g.text) t
   fits : Fits l
   fits = record { one = from_within l passes.sizes.within; two = from_agrees l agrees; three = from_roomy l roomy }
 
-  pub said : (r : Refusal) → (C.outcome l).answer ≡ Refused r → renumber (circuit_in t g.trim g.hash g.fold) ≡ stopped r
+  pub said : (r : Refusal) → (C.outcome l).answer ≡ Err r → renumber (circuit_in t g.trim g.hash g.fold) ≡ stopped r
   said r e = ap renumber (sym same) ∙ sym (conclusion_of l fits) ∙ refusal_from l r e
 
-  pub late : (r : Refusal) → (C.outcome l).answer ≡ Refused r → Late r
+  pub late : (r : Refusal) → (C.outcome l).answer ≡ Err r → Late r
   late r e = go r (subst (Concluded l) (refusal_from l r e) (concluded l))
     where
       go : (r : Refusal) → WhyLent l r → Late r
@@ -141,7 +141,7 @@ module _ (t : Text) (used : ℕ) (g : Lending) (known : Known (room_of g.text) t
       go (R.Cycle d) k = (omega arith, omega arith)
 
   -- after a success every next state and root has its value, and what is left can be written and read back
-  module _ (s : Summary) (e : (C.outcome l).answer ≡ Renumbered s) where
+  module _ (s : Summary) (e : (C.outcome l).answer ≡ Ok s) where
     after : AfterSuccess l (circuit_of l) (C.outcome l) s (held l s (C.outcome l))
     after = (demands l).success s e
 
@@ -195,7 +195,7 @@ module _ (t : Text) (used : ℕ) (g : Lending) (known : Known (room_of g.text) t
         let back = (kept out).reads_back long in
         record { bytes = back.bytes; file = result_with l s t.sizes; written = back.written; read = back.read; keeps = keeps; sizes = refl }
 
-pub text_to_file : (bytes : List ℕ) (g : Lending) (out : List ℕ) → Enough (outcome bytes g.text).read g → Chain bytes g out
+pub text_to_file : (bytes : List ℕ) (g : Lending) (out : List ℕ) → Enough (numbers (outcome bytes g.text).read) g → Chain bytes g out
 text_to_file bytes g out enough = go (read_text bytes (room_of g.text)) refl
   where
     go : (R : Read Text) → read_text bytes (room_of g.text) ≡ R → Chain bytes g out
@@ -211,14 +211,14 @@ text_to_file bytes g out enough = go (read_text bytes (room_of g.text)) refl
         passes' : Within (circuit_in t g.trim g.hash g.fold) × Bounded (circuit_in t g.trim g.hash g.fold)
         passes' = let p = known_passes (room_of g.text) t known g.trim g.hash g.fold in (p.0, p.1)
 
-        long : Enough (left (got t used) g.text).read g
-        long = subst (λ (o : Outcome). Enough o.read g) left_is enough
+        long : Enough (numbers (left (got t used) g.text).read) g
+        long = subst (λ (o : Outcome). Enough (numbers o.read) g) left_is enough
 
         by : (a : Answer) → (C.outcome (handed (left (got t used) g.text) g)).answer ≡ a → Chain bytes g out
-        by (Refused r) f =
+        by (Err r) f =
             unordered t used e r (said t used g known passes'.0 passes'.1 long r f) (late t used g known passes'.0 passes'.1 long r f)
             (ap (λ (o : Outcome). (C.outcome (handed o g)).answer) left_is ∙ f)
-        by (Renumbered s) f =
+        by (Ok s) f =
             archived t used e s (ap (λ (o : Outcome). (C.outcome (handed o g)).answer) left_is ∙ f)
             (subst⁻¹ (λ (o : Outcome). KeepsText t (held (handed o g) s (C.outcome (handed o g)))) left_is
             (keeps t used g known passes'.0 passes'.1 long s f))

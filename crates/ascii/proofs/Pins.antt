@@ -13,18 +13,18 @@ use Rattle.circuit.specs.Graph.{Gate}
 use Rattle.lines.specs.declared.Fault.{Fault}
 use Rattle.lines.specs.declared.Fault.TheVariants.{Number, Missing, Above, TooMany, Short, Reset}
 use Rattle.lines.specs.declared.Header.{Header}
+use Rattle.std.specs.Prelude.{Result, Ok}
+use Rattle.lines.specs.declared.Broken.{Broken}
 use Rattle.lines.specs.declared.Reading.{Reading}
-use Rattle.lines.specs.declared.Reading.TheVariants.{Is, Not}
+use Rattle.lines.specs.Promise.{broken, reading_of}
 use Rattle.lines.specs.Reading.{got, no}
 use Rattle.lines.specs.Lines.{is_byte, byte_at, tag_at, number_at, line_at, lines_at, reset_line_at, reset_at, latch_at}
 use Rattle.lines.specs.Sections.{roots_of, count_at, others_at, counts_at, header_at, root_room_at, properties_at, sizes_at, roots_at}
-use Rattle.binary.specs.declared.FileAnswer.{FileAnswer}
-use Rattle.binary.specs.declared.FileAnswer.TheVariants.{Taken, Refused}
 use Rattle.ascii_lines.specs.Lines.{defined_at, input_at, inputs_at, stated_latch, stated_at, latches_at, input_pair_at, gate_with, gate_at, gates_at}
 use Rattle.ascii.specs.Tag.{tag}
 use Rattle.ascii.specs.Text.{Text, circuit_in, Room, room_for, text_with, sized_at, lists_at, body_at, read_text}
 use Rattle.ascii.specs.Known.{defined_in}
-use Rattle.ascii.specs.Promise.{Lists, lists_of, room_of, written, cleared, StoresText, answered, Outcome, seen, left, outcome, Roomy}
+use Rattle.ascii.specs.Promise.{Lists, lists_of, room_of, written, cleared, StoresText, answered, numbers, Outcome, seen, left, outcome, Roomy}
 
 -- 1. Right after the header.
 
@@ -249,41 +249,46 @@ clean =
     lists (0 ∷ 0 ∷ 0 ∷ []) (0 ∷ 0 ∷ []) (0 ∷ 0 ∷ []) (0 ∷ 0 ∷ []) (0 ∷ 0 ∷ 0 ∷ 0 ∷ 0 ∷ 0 ∷ 0 ∷ 0 ∷ 0 ∷ 0 ∷ []) (0 ∷ 0 ∷ 0 ∷ [])
     (0 ∷ 0 ∷ 0 ∷ 0 ∷ 0 ∷ 0 ∷ 0 ∷ 0 ∷ 0 ∷ 0 ∷ [])
 
--- the answer, M, inputs, latches, gates, counts, sets, and the lists
-abbrev leaves : FileAnswer → ℕ → ℕ → ℕ → ℕ → List ℕ → ℕ → Lists → Outcome
-leaves answer top inputs latches gates counts sets after =
-    record { read = record { answer = answer; top = top; inputs = inputs; latches = latches; gates = gates; counts = counts; sets = sets }; lists = after }
+-- the bytes used, M, inputs, latches, gates, counts, sets, and the lists
+abbrev leaves : ℕ → ℕ → ℕ → ℕ → ℕ → List ℕ → ℕ → Lists → Outcome
+leaves used top inputs latches gates counts sets after =
+    record {
+      read = Ok (record { used = used; top = top; inputs = inputs; latches = latches; gates = gates; counts = counts; sets = sets });
+      lists = after;
+    }
 
 -- a refusal: nothing but why and where, and these lists
 abbrev refused : Fault → ℕ → Lists → Outcome
-refused why place after = leaves (Refused why place) 0 0 0 0 none 0 after
+refused why place after = record { read = broken why place; lists = after }
 
 pub left_pinned :
     (lists_of (1 ∷ []) (2 ∷ []) (3 ∷ []) (4 ∷ []) (5 ∷ []) (6 ∷ []) (7 ∷ []) ≡ lists (1 ∷ []) (2 ∷ []) (3 ∷ []) (4 ∷ []) (5 ∷ []) (6 ∷ []) (7 ∷ []))
     × (room_of (lists [] (1 ∷ []) (1 ∷ 2 ∷ []) (1 ∷ 2 ∷ 3 ∷ []) (1 ∷ 2 ∷ 3 ∷ 4 ∷ []) (1 ∷ 2 ∷ 3 ∷ 4 ∷ 5 ∷ []) (1 ∷ 2 ∷ 3 ∷ 4 ∷ 5 ∷ 6 ∷ [])) ≡ room 0 1 2 3 4 5 6)
     × (written small_text dirty ≡ filled)
     × (cleared dirty ≡ clean)
-    × (answered (got small_text 78) ≡ (leaves (Taken 78) 9 2 1 3 (2 ∷ 1 ∷ 1 ∷ 1 ∷ 3 ∷ []) 2 dirty).read)
+    × (answered (got small_text 78) ≡ (leaves 78 9 2 1 3 (2 ∷ 1 ∷ 1 ∷ 1 ∷ 3 ∷ []) 2 dirty).read)
     × (answered (no Above 7) ≡ (refused Above 7 dirty).read)
+    × (Ok (numbers (answered (got small_text 78))) ≡ (leaves 78 9 2 1 3 (2 ∷ 1 ∷ 1 ∷ 1 ∷ 3 ∷ []) 2 dirty).read)
+    × (Ok (numbers (answered (no Above 7))) ≡ (leaves 0 0 0 0 0 none 0 dirty).read)
     × (seen (answered (no Above 7)) clean ≡ refused Above 7 clean)
-    × (left (got small_text 78) dirty ≡ leaves (Taken 78) 9 2 1 3 (2 ∷ 1 ∷ 1 ∷ 1 ∷ 3 ∷ []) 2 filled)
+    × (left (got small_text 78) dirty ≡ leaves 78 9 2 1 3 (2 ∷ 1 ∷ 1 ∷ 1 ∷ 3 ∷ []) 2 filled)
     × (left (no Above 7) dirty ≡ refused Above 7 clean)
-left_pinned = (refl, refl, refl, refl, refl, refl, refl, refl, refl)
+left_pinned = (refl, refl, refl, refl, refl, refl, refl, refl, refl, refl, refl)
 
 -- inside: all but the header, with the number of justice literals; of a refusal only the answer is told
-pub stores_pinned : (r : Reading) (after : Lists)
-    → (◌≡◌ {A = Type 0} (StoresText (got small_text 78) r dirty after) ((r ≡ Is 3 78) × (after ≡ filled)))
-    × (◌≡◌ {A = Type 0} (StoresText (no Above 7) r dirty after) (r ≡ Not Above 7))
+pub stores_pinned : (r : Result Reading Broken) (after : Lists)
+    → (◌≡◌ {A = Type 0} (StoresText (got small_text 78) r dirty after) ((r ≡ Ok (reading_of 3 78)) × (after ≡ filled)))
+    × (◌≡◌ {A = Type 0} (StoresText (no Above 7) r dirty after) (r ≡ broken Above 7))
 stores_pinned r after = (refl, refl)
 
 -- 5. Whole texts.
 
 pub outcomes_pinned :
     -- the text, and into lists that are just long enough
-    (outcome small dirty ≡ leaves (Taken 78) 9 2 1 3 (2 ∷ 1 ∷ 1 ∷ 1 ∷ 3 ∷ []) 2 filled)
+    (outcome small dirty ≡ leaves 78 9 2 1 3 (2 ∷ 1 ∷ 1 ∷ 1 ∷ 3 ∷ []) 2 filled)
     × (outcome small
     (lists (9 ∷ 9 ∷ []) (9 ∷ []) (9 ∷ []) (9 ∷ []) (9 ∷ 9 ∷ 9 ∷ 9 ∷ 9 ∷ 9 ∷ 9 ∷ 9 ∷ 9 ∷ []) (9 ∷ 9 ∷ []) (9 ∷ 9 ∷ 9 ∷ 9 ∷ 9 ∷ 9 ∷ 9 ∷ 9 ∷ []))
-    ≡ leaves (Taken 78) 9 2 1 3 (2 ∷ 1 ∷ 1 ∷ 1 ∷ 3 ∷ []) 2
+    ≡ leaves 78 9 2 1 3 (2 ∷ 1 ∷ 1 ∷ 1 ∷ 3 ∷ []) 2
     (lists (4 ∷ 18 ∷ []) (6 ∷ []) (8 ∷ []) (1 ∷ []) (12 ∷ 10 ∷ 9 ∷ 8 ∷ 6 ∷ 4 ∷ 10 ∷ 8 ∷ 19 ∷ []) (2 ∷ 1 ∷ []) (12 ∷ 13 ∷ 9 ∷ 5 ∷ 7 ∷ 6 ∷ 11 ∷ 5 ∷ [])))
     -- each list a cell too short; the roots where the sizes end
     × (outcome small (lists (1 ∷ []) dirty.states dirty.nexts dirty.resets dirty.gates dirty.sizes dirty.roots)
@@ -303,11 +308,11 @@ pub outcomes_pinned :
     ≡ refused Short 47 (lists clean.inputs clean.states clean.nexts clean.resets clean.gates clean.sizes (0 ∷ 0 ∷ 0 ∷ 0 ∷ 0 ∷ 0 ∷ 0 ∷ [])))
     -- nothing announced, nothing touched
     -- aag 0 0 0 0 0\n
-    × (outcome (97 ∷ 97 ∷ 103 ∷ 32 ∷ 48 ∷ 32 ∷ 48 ∷ 32 ∷ 48 ∷ 32 ∷ 48 ∷ 32 ∷ 48 ∷ 10 ∷ []) dirty ≡ leaves (Taken 14) 0 0 0 0 none 0 dirty)
+    × (outcome (97 ∷ 97 ∷ 103 ∷ 32 ∷ 48 ∷ 32 ∷ 48 ∷ 32 ∷ 48 ∷ 32 ∷ 48 ∷ 32 ∷ 48 ∷ 10 ∷ []) dirty ≡ leaves 14 0 0 0 0 none 0 dirty)
     -- an input, with M above it
     -- aag 7 1 0 0 0\n14\n
     × (outcome (97 ∷ 97 ∷ 103 ∷ 32 ∷ 55 ∷ 32 ∷ 49 ∷ 32 ∷ 48 ∷ 32 ∷ 48 ∷ 32 ∷ 48 ∷ 10 ∷ 49 ∷ 52 ∷ 10 ∷ []) dirty
-    ≡ leaves (Taken 17) 7 1 0 0 none 0 (lists (14 ∷ 62 ∷ 63 ∷ []) dirty.states dirty.nexts dirty.resets dirty.gates dirty.sizes dirty.roots))
+    ≡ leaves 17 7 1 0 0 none 0 (lists (14 ∷ 62 ∷ 63 ∷ []) dirty.states dirty.nexts dirty.resets dirty.gates dirty.sizes dirty.roots))
     -- no byte; another tag; a number that begins with 0; a carriage return
     -- no byte
     × (outcome [] dirty ≡ refused Missing 0 clean)
@@ -334,13 +339,13 @@ pub outcomes_pinned :
     -- a latch: unset, at 1, at 0 with no reset there; a reset that is the negated literal, with its newline and without; another latch's literal
     -- aag 2 1 1 0 0\n2\n4 5 4\n
     × (outcome (97 ∷ 97 ∷ 103 ∷ 32 ∷ 50 ∷ 32 ∷ 49 ∷ 32 ∷ 49 ∷ 32 ∷ 48 ∷ 32 ∷ 48 ∷ 10 ∷ 50 ∷ 10 ∷ 52 ∷ 32 ∷ 53 ∷ 32 ∷ 52 ∷ 10 ∷ []) dirty
-    ≡ leaves (Taken 22) 2 1 1 0 none 0 (lists (2 ∷ 62 ∷ 63 ∷ []) (4 ∷ 72 ∷ []) (5 ∷ 22 ∷ []) (4 ∷ 52 ∷ []) dirty.gates dirty.sizes dirty.roots))
+    ≡ leaves 22 2 1 1 0 none 0 (lists (2 ∷ 62 ∷ 63 ∷ []) (4 ∷ 72 ∷ []) (5 ∷ 22 ∷ []) (4 ∷ 52 ∷ []) dirty.gates dirty.sizes dirty.roots))
     -- aag 2 1 1 0 0\n2\n4 5 1\n
     × (outcome (97 ∷ 97 ∷ 103 ∷ 32 ∷ 50 ∷ 32 ∷ 49 ∷ 32 ∷ 49 ∷ 32 ∷ 48 ∷ 32 ∷ 48 ∷ 10 ∷ 50 ∷ 10 ∷ 52 ∷ 32 ∷ 53 ∷ 32 ∷ 49 ∷ 10 ∷ []) dirty
-    ≡ leaves (Taken 22) 2 1 1 0 none 0 (lists (2 ∷ 62 ∷ 63 ∷ []) (4 ∷ 72 ∷ []) (5 ∷ 22 ∷ []) (1 ∷ 52 ∷ []) dirty.gates dirty.sizes dirty.roots))
+    ≡ leaves 22 2 1 1 0 none 0 (lists (2 ∷ 62 ∷ 63 ∷ []) (4 ∷ 72 ∷ []) (5 ∷ 22 ∷ []) (1 ∷ 52 ∷ []) dirty.gates dirty.sizes dirty.roots))
     -- aag 2 1 1 0 0\n2\n4 5\n
     × (outcome (97 ∷ 97 ∷ 103 ∷ 32 ∷ 50 ∷ 32 ∷ 49 ∷ 32 ∷ 49 ∷ 32 ∷ 48 ∷ 32 ∷ 48 ∷ 10 ∷ 50 ∷ 10 ∷ 52 ∷ 32 ∷ 53 ∷ 10 ∷ []) dirty
-    ≡ leaves (Taken 20) 2 1 1 0 none 0 (lists (2 ∷ 62 ∷ 63 ∷ []) (4 ∷ 72 ∷ []) (5 ∷ 22 ∷ []) (0 ∷ 52 ∷ []) dirty.gates dirty.sizes dirty.roots))
+    ≡ leaves 20 2 1 1 0 none 0 (lists (2 ∷ 62 ∷ 63 ∷ []) (4 ∷ 72 ∷ []) (5 ∷ 22 ∷ []) (0 ∷ 52 ∷ []) dirty.gates dirty.sizes dirty.roots))
     -- aag 2 1 1 0 0\n2\n4 5 5\n
     × (outcome (97 ∷ 97 ∷ 103 ∷ 32 ∷ 50 ∷ 32 ∷ 49 ∷ 32 ∷ 49 ∷ 32 ∷ 48 ∷ 32 ∷ 48 ∷ 10 ∷ 50 ∷ 10 ∷ 52 ∷ 32 ∷ 53 ∷ 32 ∷ 53 ∷ 10 ∷ []) dirty
     ≡ refused Reset 20 clean)
@@ -353,7 +358,7 @@ pub outcomes_pinned :
     -- aag 3 1 0 1 2\n2\n6\n6 4 2\n4 2 3\n
     × (outcome (97 ∷ 97 ∷ 103 ∷ 32 ∷ 51 ∷ 32 ∷ 49 ∷ 32 ∷ 48 ∷ 32 ∷ 49 ∷ 32 ∷ 50 ∷ 10 ∷ 50 ∷ 10 ∷ 54 ∷ 10 ∷ 54 ∷ 32 ∷ 52 ∷ 32 ∷ 50 ∷ 10 ∷ 52 ∷ 32 ∷ 50 ∷ 32 ∷
     51 ∷ 10 ∷ []) dirty
-    ≡ leaves (Taken 30) 3 1 0 2 (1 ∷ 0 ∷ 0 ∷ 0 ∷ 0 ∷ []) 0
+    ≡ leaves 30 3 1 0 2 (1 ∷ 0 ∷ 0 ∷ 0 ∷ 0 ∷ []) 0
     (lists (2 ∷ 62 ∷ 63 ∷ []) dirty.states dirty.nexts dirty.resets (6 ∷ 4 ∷ 2 ∷ 4 ∷ 2 ∷ 3 ∷ 87 ∷ 88 ∷ 89 ∷ 90 ∷ []) dirty.sizes
     (6 ∷ 42 ∷ 43 ∷ 44 ∷ 45 ∷ 46 ∷ 47 ∷ 48 ∷ 49 ∷ 50 ∷ [])))
     -- aag 3 1 0 1 2\n2\n6\n6 4 2\n5 2 3\n

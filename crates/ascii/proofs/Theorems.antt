@@ -14,12 +14,12 @@ use Rattle.lines.specs.Reading.{got, no}
 use Rattle.circuit.specs.Ordered.{given}
 use Rattle.ordered.specs.declared.given.Fault.{Fault}
 use Rattle.ordered.specs.Check.{Words}
-use Rattle.binary.specs.declared.FileWritten.TheVariants.{Written, Unwritten}
+use Rattle.std.specs.Prelude.{Ok}
 use Rattle.binary.specs.File.{File}
 use Rattle.binary.specs.Sound.{Sound}
-use Rattle.binary.specs.Write.{file_in, Writing, wrote}
+use Rattle.binary.specs.Write.{unwritten, file_in, Writing, wrote}
 use Rattle.ascii.specs.Text.{Text, Room, circuit_in, read_text}
-use Rattle.ascii.specs.Promise.{Lists, lists_of, Outcome, outcome}
+use Rattle.ascii.specs.Promise.{Lists, lists_of, numbers, Outcome, outcome}
 use Rattle.ascii.specs.Spelling.{Spells}
 use Rattle.ascii.specs.Known.{Known, Ample}
 use Rattle.ascii.specs.Write.{text_of, writing}
@@ -80,16 +80,16 @@ pub text_given : (f : File) (trim hash fold : Bool) → circuit_in (text_for f) 
 text_given = spelled.text_given
 
 -- So bytes that writing left are read as the circuit that was lent, and a refusal leaves them as they were.
-pub written_is_read : (w : Words) (out bytes : List ℕ) (n : ℕ) → writing w out ≡ wrote (Written n) bytes → length w.counts ≡ 5
+pub written_is_read : (w : Words) (out bytes : List ℕ) (n : ℕ) → writing w out ≡ wrote (Ok n) bytes → length w.counts ≡ 5
     → (room : Room) → Holds room (file_in w) → read_text bytes room ≡ got (text_for (file_in w)) n
 written_is_read = written.written_is_read
 
-pub refusals_keep : (w : Words) (out bytes : List ℕ) (why : Fault) (needed : ℕ) → writing w out ≡ wrote (Unwritten why needed) bytes → bytes ≡ out
+pub refusals_keep : (w : Words) (out bytes : List ℕ) (why : Fault) (needed : ℕ) → writing w out ≡ wrote (unwritten why needed) bytes → bytes ≡ out
 refusals_keep = written.refusals_keep
 
 -- 7. The chain. Bytes are read as a text, lent to renumbering under any flags, written as a binary file and read again, with lists that are long enough. Then the
 -- text is refused; or renumbering refuses its lists as document 01 does, by 5, 6, 7 or 8 with its literal; or what is made can be written, and where the lent
 -- bytes suffice the file that is read back has the text's numbers of inputs, latches and roots and its justice sizes, each root and next state of it has, under
 -- every setting, the value of the one at its place in the text, and each latch the first value: 0, 1 or free.
-pub text_to_file : (bytes : List ℕ) (g : Lending) (out : List ℕ) → Enough (outcome bytes g.text).read g → Chain bytes g out
+pub text_to_file : (bytes : List ℕ) (g : Lending) (out : List ℕ) → Enough (numbers (outcome bytes g.text).read) g → Chain bytes g out
 text_to_file = chain.text_to_file

@@ -1,89 +1,40 @@
--- The whole text: header and body together are the answer, and a refusal clears the lists. Assumes nothing.
-use Prim.Native.Nat.{ℕ, ◌*◌, ◌≤◌, ◌<◌}
+-- The whole text: header and body together are the answer. Assumes nothing.
+use Prim.Native.Nat.{ℕ, ◌*◌, ◌≤◌}
+use Rattle.std.specs.Prelude.{Result, Ok, Err, is_err}
 use mathlib.Core.Path.{◌≡◌, refl, sym, ap, ◌∙◌, subst}
 use mathlib.Core.Bool.{Bool, true, false, cond, ◌||◌}
 use mathlib.Core.List.{List, [], ◌∷◌}
 use native.Mathlib.Omega.{arith}
 use lib.Dec.{ltb}
 use lib.ListN.{length}
-use borrow.Author.Tests.{lt-ltb, le-ltb, ltb-false}
+use borrow.Author.Tests.{le-ltb, ltb-false}
 use Rattle.circuit.specs.Graph.{Gate}
 use Rattle.circuit.specs.Outcome.{total, zeros}
-use Rattle.lines.specs.declared.Fault.{Fault}
 use Rattle.lines.specs.declared.Fault.TheVariants.{Short}
-use Rattle.lines.specs.declared.Ended.{Ended}
-use Rattle.lines.specs.declared.Ended.TheVariants.{After, Broken}
+use Rattle.lines.specs.declared.Broken.{Broken}
 use Rattle.lines.specs.declared.Reading.{Reading}
-use Rattle.lines.specs.declared.Reading.TheVariants.{Is, Not}
-use Rattle.lines.specs.declared.FirstLine.TheVariants.{Counts, NoCounts}
+use Rattle.lines.specs.declared.FirstLine.{FirstLine}
 use Rattle.lines.specs.declared.Header.{Header}
 use Rattle.lines.specs.Reading.{Read, got, no, ◌▸◌}
 use Rattle.lines.specs.Sections.{Roots, header_at, top_code, roots_at}
 use Rattle.lines.specs.Limits.{Within}
-use Rattle.lines.specs.Promise.{ended, first_line}
-use Rattle.lines.proofs.Answers.{after_got, broken_no}
+use Rattle.lines.specs.Promise.{ended, reading_of, first_line_of, first_line}
+use Rattle.lines.proofs.Answers.{after_got, header_got, broken_no}
 use Rattle.lines.proofs.Heads.{two, got_same, got_place, header_within}
 use Rattle.lines.proofs.Known.{roots_known}
-use Rattle.binary.specs.declared.FileAnswer.TheVariants.{Taken}
 use Rattle.binary.specs.File.{counts_of}
-use Rattle.binary.proofs.Whole.{counts_got, counts_no}
+use Rattle.binary.proofs.Files.{same_refusal}
 use Rattle.ascii_lines.specs.Lines.{Stated, inputs_at, latches_at, gates_at}
 use Rattle.ascii_lines.proofs.Known.{inputs_length, states_length, nexts_length, resets_length, gates_length}
 use Rattle.ascii.specs.declared.TextRead.{TextRead}
 use Rattle.ascii.specs.Tag.{tag}
 use Rattle.ascii.specs.Text.{Text, Room, room_for, text_with, sized_at, lists_at, body_at, read_text}
-use Rattle.ascii.specs.Promise.{Lists, room_of, cleared, answered, Outcome, seen, left, outcome, StoresText, Roomy}
+use Rattle.ascii.specs.Promise.{Lists, room_of, cleared, seen, left, StoresText, StoresRead, Roomy}
 use Rattle.ascii.proofs.Seven.{seven}
 
--- right after the header: the first list that is too short
+-- right after the header
 
 module _ (h : Header) (room : Room) (at : ℕ) where
-  pub sized_inputs : room.inputs < h.inputs → Broken Short at ≡ ended (sized_at h room at)
-  unfolding sized_at
-  sized_inputs a₁ = rw (lt-ltb room.inputs h.inputs a₁)
-
-  pub sized_states : h.inputs ≤ room.inputs → room.states < h.latches → Broken Short at ≡ ended (sized_at h room at)
-  unfolding sized_at
-  sized_states a₁ a₂ = rw (le-ltb room.inputs h.inputs a₁, lt-ltb room.states h.latches a₂)
-
-  pub sized_nexts : h.inputs ≤ room.inputs → h.latches ≤ room.states → room.nexts < h.latches → Broken Short at ≡ ended (sized_at h room at)
-  unfolding sized_at
-  sized_nexts a₁ a₂ a₃ = rw (le-ltb room.inputs h.inputs a₁, le-ltb room.states h.latches a₂, lt-ltb room.nexts h.latches a₃)
-
-  pub sized_resets : h.inputs ≤ room.inputs → h.latches ≤ room.states → h.latches ≤ room.nexts → room.resets < h.latches
-      → Broken Short at ≡ ended (sized_at h room at)
-  unfolding sized_at
-  sized_resets a₁ a₂ a₃ a₄ = rw (
-    le-ltb room.inputs h.inputs a₁,
-    le-ltb room.states h.latches a₂,
-    le-ltb room.nexts h.latches a₃,
-    lt-ltb room.resets h.latches a₄,
-  )
-
-  pub sized_gates : h.inputs ≤ room.inputs → h.latches ≤ room.states → h.latches ≤ room.nexts → h.latches ≤ room.resets
-      → room.gates < 3 * h.gates → Broken Short at ≡ ended (sized_at h room at)
-  unfolding sized_at
-  sized_gates a₁ a₂ a₃ a₄ a₅ = rw (
-    le-ltb room.inputs h.inputs a₁,
-    le-ltb room.states h.latches a₂,
-    le-ltb room.nexts h.latches a₃,
-    le-ltb room.resets h.latches a₄,
-    lt-ltb room.gates (3 * h.gates) a₅,
-  )
-
-  pub sized_sizes : h.inputs ≤ room.inputs → h.latches ≤ room.states → h.latches ≤ room.nexts → h.latches ≤ room.resets
-      → 3 * h.gates ≤ room.gates → room.sizes < h.justice → Broken Short at ≡ ended (sized_at h room at)
-  unfolding sized_at
-  sized_sizes a₁ a₂ a₃ a₄ a₅ a₆ = rw (
-    le-ltb room.inputs h.inputs a₁,
-    le-ltb room.states h.latches a₂,
-    le-ltb room.nexts
-        h.latches a₃,
-    le-ltb room.resets h.latches a₄,
-    le-ltb room.gates (3 * h.gates) a₅,
-    lt-ltb room.sizes h.justice a₆,
-  )
-
   pub sized_fits : h.inputs ≤ room.inputs → h.latches ≤ room.states → h.latches ≤ room.nexts → h.latches ≤ room.resets
       → 3 * h.gates ≤ room.gates → h.justice ≤ room.sizes → sized_at h room at ≡ got tt at
   unfolding sized_at
@@ -96,10 +47,6 @@ module _ (h : Header) (room : Room) (at : ℕ) where
     le-ltb room.gates (3 * h.gates) a₅,
     le-ltb room.sizes h.justice a₆,
   )
-
-  pub sized_is : h.inputs ≤ room.inputs → h.latches ≤ room.states → h.latches ≤ room.nexts → h.latches ≤ room.resets
-      → 3 * h.gates ≤ room.gates → h.justice ≤ room.sizes → After at ≡ ended (sized_at h room at)
-  sized_is a₁ a₂ a₃ a₄ a₅ a₆ = sym (ap ended (sized_fits a₁ a₂ a₃ a₄ a₅ a₆))
 
   pub sized_taken : Roomy h room → sized_at h room at ≡ got tt at
   sized_taken r = sized_fits r.inputs_fit r.states_fit r.nexts_fit r.resets_fit r.gates_fit r.sizes_fit
@@ -135,27 +82,27 @@ sized_alike : (h : Header) (l : Lists) (at : ℕ) → sized_at h (room_for (leng
 unfolding sized_at
 sized_alike h l at = refl
 
-module _ (s : List ℕ) (h : Header) (at : ℕ) (l l' : Lists) (r : Ended)
+module _ (s : List ℕ) (h : Header) (at : ℕ) (l l' : Lists) (r : Result ℕ Broken)
     (e : r ≡ ended (sized_at h (room_for (length l.inputs) (length l.states) (length l.nexts) (length l.resets) (length l.gates)
     (length l.sizes)) at)) where
   told : ended (sized_at h (room_of l) at) ≡ r
   told = ap ended (sym (sized_alike h l at)) ∙ sym e
 
-  pub body_roomy : (next : ℕ) → r ≡ After next → Roomy h (room_of l)
+  pub body_roomy : (next : ℕ) → r ≡ Ok next → Roomy h (room_of l)
   body_roomy next f = let g = after_got (sized_at h (room_of l) at) next (told ∙ f) in sized_roomy h (room_of l) at g.0 next g.1
 
-  pub body_is : (next : ℕ) (x : Reading) → r ≡ After next → StoresText (lists_at s (length l.roots) h next) x l l' → StoresText (body_at s
+  pub body_is : (next : ℕ) (x : Result Reading Broken) → r ≡ Ok next → StoresText (lists_at s (length l.roots) h next) x l l' → StoresText (body_at s
       (room_of l) h at) x l l'
   unfolding body_at
   body_is next x f g =
       let a = after_got (sized_at h (room_of l) at) next (told ∙ f) in
       subst (λ (R : Read (Unit {0})). StoresText (R ▸ λ _ at₁. lists_at s (length l.roots) h at₁) x l l') (sym a.1) g
 
-  pub body_not : (why : Fault) (place : ℕ) → r ≡ Broken why place → StoresText (body_at s (room_of l) h at) (Not why place) l l'
+  pub body_not : (b : Broken) (t : Result Reading Broken) → r ≡ Err b → t ≡ Err b → StoresText (body_at s (room_of l) h at) t l l'
   unfolding body_at
-  body_not why place f =
-      let a = broken_no (sized_at h (room_of l) at) why place (told ∙ f) in
-      subst (λ (R : Read (Unit {0})). StoresText (R ▸ λ _ at₁. lists_at s (length l.roots) h at₁) (Not why place) l l') (sym a) refl
+  body_not b t f q =
+      let a = broken_no (λ _ p. p) (sized_at h (room_of l) at) b (told ∙ f) in
+      subst (λ (R : Read (Unit {0})). StoresText (R ▸ λ _ at₁. lists_at s (length l.roots) h at₁) t l l') (sym a) q
 
 -- what a text is made of, section by section
 
@@ -239,72 +186,47 @@ body_announced s room h at t end e =
 
 -- header and body
 
--- lists of the same lengths are cleared to the same
-pub record SameLengths (l l' : Lists) : Type 0 where
-  pub inputs : length l'.inputs ≡ length l.inputs
-  pub states : length l'.states ≡ length l.states
-  pub nexts : length l'.nexts ≡ length l.nexts
-  pub resets : length l'.resets ≡ length l.resets
-  pub gates : length l'.gates ≡ length l.gates
-  pub sizes : length l'.sizes ≡ length l.sizes
-  pub roots : length l'.roots ≡ length l.roots
-
-same_cleared : (l l' : Lists) → SameLengths l l' → cleared l' ≡ cleared l
-same_cleared l l' e =
-    seven (ap zeros e.inputs) (ap zeros e.states) (ap zeros e.nexts) (ap zeros e.resets) (ap zeros e.gates) (ap zeros e.sizes)
-    (ap zeros e.roots)
-
 -- the answer for a text that is taken, from the numbers that its header announced
-abbrev taken_of : Header → ℕ → ℕ → TextRead
-taken_of h justice end =
+abbrev taken_of : Header → Reading → TextRead
+taken_of h x =
     record {
-      answer = Taken end;
+      used = x.after;
       top = h.top;
       inputs = h.inputs;
       latches = h.latches;
       gates = h.gates;
-      counts = h.outputs ∷ h.bad ∷ h.constraints ∷ h.fairness ∷ justice ∷ [];
+      counts = h.outputs ∷ h.bad ∷ h.constraints ∷ h.fairness ∷ x.value ∷ [];
       sets = h.justice;
     }
 
-fields : {e₁ e₂ t₁ t₂ i₁ i₂ l₁ l₂ g₁ g₂ : ℕ} {c₁ c₂ : List ℕ} {s₁ s₂ : ℕ} {x y : Lists} → e₁ ≡ e₂ → t₁ ≡ t₂ → i₁ ≡ i₂ → l₁ ≡ l₂ → g₁ ≡ g₂ → c₁ ≡ c₂ → s₁ ≡ s₂
-    → x ≡ y → seen (record { answer = Taken e₁; top = t₁; inputs = i₁; latches = l₁; gates = g₁; counts = c₁; sets = s₁ }) x
-    ≡ seen (record { answer = Taken e₂; top = t₂; inputs = i₂; latches = l₂; gates = g₂; counts = c₂; sets = s₂ }) y
-fields a₁ a₂ a₃ a₄ a₅ a₆ a₇ a₈ = cc
+fields : {e₁ e₂ t₁ t₂ i₁ i₂ l₁ l₂ g₁ g₂ : ℕ} {c₁ c₂ : List ℕ} {s₁ s₂ : ℕ} → e₁ ≡ e₂ → t₁ ≡ t₂ → i₁ ≡ i₂ → l₁ ≡ l₂ → g₁ ≡ g₂ → c₁ ≡ c₂ → s₁ ≡ s₂
+    → ◌≡◌ {A = TextRead} (record { used = e₁; top = t₁; inputs = i₁; latches = l₁; gates = g₁; counts = c₁; sets = s₁ })
+    (record { used = e₂; top = t₂; inputs = i₂; latches = l₂; gates = g₂; counts = c₂; sets = s₂ })
+fields a₁ a₂ a₃ a₄ a₅ a₆ a₇ = cc
 
 module _ (s : List ℕ) (l : Lists) where
-  pub read_no_header : (why : Fault) (place : ℕ) (o : Outcome) → first_line (header_at s tag) ≡ NoCounts why place → o ≡ left (no why place) l → o ≡ outcome s l
-  unfolding read_text
-  read_no_header why place o e f =
-      f ∙ sym (ap (λ (R : Read Header). left (R ▸ λ h at. body_at s (room_of l) h at) l) (counts_no (header_at s tag) why place e))
+  module _ (x : FirstLine) (e : first_line (header_at s tag) ≡ Ok x) where
+    pub read_within : Within x.header
+    read_within = header_within s tag x.header x.after (header_got (header_at s tag) x e)
 
-  module _ (h : Header) (at : ℕ) (e : first_line (header_at s tag) ≡ Counts h at) where
-    pub read_within : Within h
-    read_within = header_within s tag h at (counts_got (header_at s tag) h at e)
-
-    whole : left (body_at s (room_of l) h at) l ≡ outcome s l
+    whole : body_at s (room_of l) x.header x.after ≡ read_text s (room_of l)
     unfolding read_text
-    whole = sym (ap (λ (R : Read Header). left (R ▸ λ k p. body_at s (room_of l) k p) l) (counts_got (header_at s tag) h at e))
+    whole = sym (ap (λ (R : Read Header). R ▸ λ h at. body_at s (room_of l) h at) (header_got (header_at s tag) x e))
 
-    module _ (mid : Lists) (x : Reading) (f : StoresText (body_at s (room_of l) h at) x l mid) where
-      pub read-refused : (why : Fault) (place : ℕ) (o : Outcome) → x ≡ Not why place → SameLengths l mid → o ≡ left (no why place) mid → o ≡ outcome s l
-      read-refused why place o g n k =
-          k ∙ ap (seen (answered (no why place))) (same_cleared l mid n)
-          ∙ sym (ap (λ (R : Read Text). left R l) (none (body_at s (room_of l) h at) f)) ∙ whole
+    module _ (mid : Lists) (r : Result Reading Broken) (f : StoresText (body_at s (room_of l) x.header x.after) r l mid) where
+      pub taken_is : (y : Reading) → r ≡ Ok y → StoresRead (read_text s (room_of l)) (Ok (taken_of x.header y)) l mid
+      taken_is y g =
+          subst (λ (R : Read Text). StoresRead R (Ok (taken_of x.header y)) l mid) whole (go (body_at s (room_of l) x.header x.after) refl f)
         where
-          none : (R : Read Text) → StoresText R x l mid → R ≡ no why place
-          none (got text p) (a, b) = absurd (let z : ◌≡◌ {A = ℕ} 0 1 = cc in omega arith)
-          none (no w p) a = let b : w ≡ why = cc in let c : p ≡ place = cc in ap (λ (y : Fault). no y p) b ∙ ap (no why) c
-
-      pub read_is : (justice end : ℕ) → x ≡ Is justice end → seen (taken_of h justice end) mid ≡ outcome s l
-      read_is justice end g = go (body_at s (room_of l) h at) refl f ∙ whole
-        where
-          go : (R : Read Text) → body_at s (room_of l) h at ≡ R → StoresText R x l mid → seen (taken_of h justice end) mid ≡ left R l
+          go : (R : Read Text) → body_at s (room_of l) x.header x.after ≡ R → StoresText R r l mid → StoresRead R (Ok (taken_of x.header y)) l mid
           go (got text p) k (b, c) =
-              let n = body_announced s (room_of l) h at text p k in
-              let j : justice ≡ total text.sizes = cc in
-              let q : end ≡ p = cc in
-              let counts : (h.outputs ∷ h.bad ∷ h.constraints ∷ h.fairness ∷ justice ∷ []) ≡ text.counts =
-              ap (λ (y : ℕ). h.outputs ∷ h.bad ∷ h.constraints ∷ h.fairness ∷ y ∷ []) j ∙ sym n.counts in
-              fields q (sym n.top) (sym n.inputs) (sym n.states) (sym n.gates) counts (sym n.sets) c
+              let h = x.header in
+              let n = body_announced s (room_of l) h x.after text p k in
+              let same : ◌≡◌ {A = Reading} y (reading_of (total text.sizes) p) = cc in
+              let counts : (h.outputs ∷ h.bad ∷ h.constraints ∷ h.fairness ∷ y.value ∷ []) ≡ text.counts =
+              ap (λ (z : Reading). h.outputs ∷ h.bad ∷ h.constraints ∷ h.fairness ∷ z.value ∷ []) same ∙ sym n.counts in (
+                ap (λ (z : TextRead). Ok z)
+                    (fields (ap (λ (z : Reading). z.after) same) (sym n.top) (sym n.inputs) (sym n.states) (sym n.gates) counts (sym n.sets)),
+                c,
+              )
           go (no why p) k b = absurd (let z : ◌≡◌ {A = ℕ} 0 1 = cc in omega arith)

@@ -6,8 +6,8 @@ use native.Mathlib.Numerals.{add-one}
 use native.Mathlib.Omega.{arith, min_cases}
 use lib.ListN.{length, get_or, drop, drop_of_length-le}
 use lib.Seq.{drop-cons}
-use Rattle.place.specs.Place.{last, further}
-use Rattle.text.specs.Put.{put_all}
+use Rattle.place.specs.Place.{last}
+use Rattle.text.specs.Put.{Puts}
 use Rattle.text.proofs.Puts.{Onward, onward_all, onward, onward_none}
 use Rattle.circuit.specs.Walk.{Pair, first_code}
 use Rattle.circuit.specs.Ordered.{no_pair, first_latch, count_from}
@@ -22,13 +22,13 @@ use Rattle.ascii.specs.Write.{input_lines, stated_bytes, stated_lines, gate_line
 
 module _ (n : ℕ) {out₀ : List ℕ} {at : ℕ} {out : List ℕ} {i place : ℕ} (p : Rowing line_bytes out₀ at (count_from 2 n) out i place) where
   pub inputs_more : (out' : List ℕ) (place' : ℕ) → i < n → length out₀ ≤ last
-      → (out' ≡ put_all out place (line_bytes (2 + 2 * i))) × (place' ≡ further place (length (line_bytes (2 + 2 * i))))
+      → Puts out place (line_bytes (2 + 2 * i)) out' place'
       → Rowing line_bytes out₀ at (count_from 2 n) out' (i + 1) place'
   inputs_more out' place' there short put =
       rowing_more p out' place' (omega (arith, count_from-length 2 n)) short
-      (subst⁻¹ (λ (v : ℕ). (out' ≡ put_all out place (line_bytes v)) × (place' ≡ further place (length (line_bytes v)))) (count_from_get_d 2 n i there) put)
+      (subst⁻¹ (λ (v : ℕ). Puts out place (line_bytes v) out' place') (count_from_get_d 2 n i there) put)
 
-  pub inputs_all : n ≤ i → (out ≡ put_all out₀ at (input_lines n)) × (place ≡ further at (length (input_lines n)))
+  pub inputs_all : n ≤ i → Puts out₀ at (input_lines n) out place
   unfolding input_lines
   inputs_all end = rowing_all p (omega (arith, count_from-length 2 n))
 
@@ -61,36 +61,23 @@ pub record Stating (out₀ : List ℕ) (at inputs : ℕ) (ns rs out : List ℕ) 
   pub there : place ≤ last
   pub left : Onward out₀ at (stated_lines (first_latch inputs) ns rs) out place (stated_lines (first_latch inputs + 2 * i) (drop i ns) (drop i rs))
 
-pub stating_none : (out : List ℕ) (at inputs : ℕ) (ns rs : List ℕ) → at ≤ last → Stating out at inputs ns rs out (2 + 2 * inputs) 0 at
-stating_none out at inputs ns rs h =
-    record {
-      inside = omega arith;
-      own = omega arith;
-      there = h;
-      left =
-          subst (λ (t : ℕ). Onward out at (stated_lines (first_latch inputs) ns rs) out at (stated_lines t ns rs))
-          (let z : first_latch inputs ≡ first_latch inputs + 2 * 0 = omega arith in z) (onward_all out at (stated_lines (first_latch inputs) ns rs));
-    }
-
 module _ {out₀ : List ℕ} {at inputs : ℕ} {ns rs out : List ℕ} {state i place : ℕ} (p : Stating out₀ at inputs ns rs out state i place) where
-  pub stating_more : (out' : List ℕ) (place' : ℕ) → i < min (length ns) (length rs) → length out₀ ≤ last
-      → (out' ≡ put_all out place (stated_bytes state (get_or ns i 0) (get_or rs i 0)))
-      × (place' ≡ further place (length (stated_bytes state (get_or ns i 0) (get_or rs i 0))))
-      → Stating out₀ at inputs ns rs out' (state + 2) (i + 1) place'
-  stating_more out' place' there short put =
+  pub stating_more : (n r j : ℕ) (out' : List ℕ) (place' : ℕ) → i < min (length ns) (length rs) → length out₀ ≤ last → j ≡ i + 1
+      → n ≡ get_or ns i 0 → r ≡ get_or rs i 0 → Puts out place (stated_bytes state n r) out' place'
+      → Stating out₀ at inputs ns rs out' (state + 2) j place'
+  stating_more n r j out' place' there short next e f put =
       let rest : List ℕ = stated_lines (first_latch inputs + 2 * (i + 1)) (drop (i + 1) ns) (drop (i + 1) rs) in
-      let parts : stated_lines (first_latch inputs + 2 * i) (drop i ns) (drop i rs) ≡ stated_bytes state (get_or ns i 0) (get_or rs i 0) ++ rest
-      = stated_next (first_latch inputs) ns rs i (omega arith) (omega arith)
-      ∙ ap (λ (k : ℕ). stated_bytes k (get_or ns i 0) (get_or rs i 0) ++ rest) (sym p.own) in
-      record {
+      let parts : stated_lines (first_latch inputs + 2 * i) (drop i ns) (drop i rs) ≡ stated_bytes state n r ++ rest
+      = stated_next (first_latch inputs) ns rs i (omega arith) (omega arith) ∙ rw (p.own, e, f) in
+      rw next (record {
         inside = omega arith;
         own = omega (arith, p.own);
         there = omega (arith, put.1);
-        left = onward p.left (stated_bytes state (get_or ns i 0) (get_or rs i 0)) rest parts out' place' short put.0 put.1;
-      }
+        left = onward p.left (stated_bytes state n r) rest parts out' place' short put.0 put.1;
+      })
 
   pub stating_all : min (length ns) (length rs) ≤ i
-      → (out ≡ put_all out₀ at (stated_lines (first_latch inputs) ns rs)) × (place ≡ further at (length (stated_lines (first_latch inputs) ns rs)))
+      → Puts out₀ at (stated_lines (first_latch inputs) ns rs) out place
   stating_all end = onward_none p.left (stated_end (first_latch inputs + 2 * i) ns rs i end) p.there
 
 -- the gates from the j-th on: its line, and the others
@@ -124,8 +111,7 @@ gating_none out at n ws h =
 
 module _ {out₀ : List ℕ} {at n : ℕ} {ws out : List ℕ} {code j place : ℕ} (p : Gating out₀ at n ws out code j place) where
   pub gating_more : (out' : List ℕ) (place' : ℕ) → j < length ws / 2 → length out₀ ≤ last
-      → (out' ≡ put_all out place (gate_line code (get_or ws (2 * j) 0) (get_or ws (2 * j + 1) 0)))
-      × (place' ≡ further place (length (gate_line code (get_or ws (2 * j) 0) (get_or ws (2 * j + 1) 0))))
+      → Puts out place (gate_line code (get_or ws (2 * j) 0) (get_or ws (2 * j + 1) 0)) out' place'
       → Gating out₀ at n ws out' (code + 2) (j + 1) place'
   gating_more out' place' there short put =
       let rest : List ℕ = gate_lines (first_code n + 2 * (j + 1)) (drop (j + 1) (pairs_of ws)) in
@@ -140,7 +126,7 @@ module _ {out₀ : List ℕ} {at n : ℕ} {ws out : List ℕ} {code j place : �
       }
 
   pub gating_all : length ws / 2 ≤ j
-      → (out ≡ put_all out₀ at (gate_lines (first_code n) (pairs_of ws))) × (place ≡ further at (length (gate_lines (first_code n) (pairs_of ws))))
+      → Puts out₀ at (gate_lines (first_code n) (pairs_of ws)) out place
   gating_all end =
       let none = ap (gate_lines (first_code n + 2 * j)) (drop_of_length-le (pairs_of ws) {i = j} (omega (arith, pairs_length ws))) in
       onward_none p.left none p.there

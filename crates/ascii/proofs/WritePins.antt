@@ -10,9 +10,9 @@ use Rattle.circuit.specs.Walk.{first_code}
 use Rattle.sections.specs.Bytes.{line_bytes, count_bytes, reset_bytes, latch_bytes, after_tag, roots_bytes}
 use Rattle.ordered.specs.declared.given.Fault.TheVariants.{TooBig, Misshapen, Over, Reset, Disordered, Short}
 use Rattle.ordered.specs.Check.{too_large, uneven, checked}
-use Rattle.binary.specs.declared.FileWritten.TheVariants.{Written, Unwritten}
+use Rattle.std.specs.Prelude.{Ok}
 use Rattle.binary.specs.File.{File}
-use Rattle.binary.specs.Write.{wrote}
+use Rattle.binary.specs.Write.{unwritten, wrote}
 use Rattle.binary.proofs.Pins.{pair, file, small_file}
 use Rattle.binary.proofs.WritePins.{bare, none, words, small_words}
 use Rattle.ascii.specs.Tag.{tag}
@@ -112,29 +112,29 @@ mended = (97 ∷ 97 ∷ 103 ∷ 32 ∷ 50 ∷ 32 ∷ 49 ∷ 32 ∷ 48 ∷ 32 ∷
 
 pub writing_pinned :
     -- the small circuit, with three bytes behind it; one byte short; the empty circuit into just as many, and into none: 3 names how many are needed
-    (writing small_words (replicate 76 99 ++ (1 ∷ 2 ∷ 3 ∷ [])) ≡ wrote (Written 76) (small ++ (1 ∷ 2 ∷ 3 ∷ [])))
-    × (writing small_words (replicate 75 99) ≡ wrote (Unwritten Short 76) (replicate 75 99))
-    × (writing (words 0 none [] [] [] [] []) (replicate 14 99) ≡ wrote (Written 14) empty)
-    × (writing (words 0 none [] [] [] [] []) [] ≡ wrote (Unwritten Short 14) [])
+    (writing small_words (replicate 76 99 ++ (1 ∷ 2 ∷ 3 ∷ [])) ≡ wrote (Ok 76) (small ++ (1 ∷ 2 ∷ 3 ∷ [])))
+    × (writing small_words (replicate 75 99) ≡ wrote (unwritten Short 76) (replicate 75 99))
+    × (writing (words 0 none [] [] [] [] []) (replicate 14 99) ≡ wrote (Ok 14) empty)
+    × (writing (words 0 none [] [] [] [] []) [] ≡ wrote (unwritten Short 14) [])
     -- 2 for counts, for sizes, for a reset that is missing and for a word that is left over; 4; 22, by the latch's literal negated; 23, by the first input and
     -- by the second; each where the bytes are too few as well, so that 3 is answered after them all
-    × (writing (words 0 none [] [] [] [] (0 ∷ [])) (7 ∷ 8 ∷ []) ≡ wrote (Unwritten Misshapen 0) (7 ∷ 8 ∷ []))
-    × (writing (words 0 none [] [] [] (1 ∷ []) []) (7 ∷ 8 ∷ []) ≡ wrote (Unwritten Misshapen 0) (7 ∷ 8 ∷ []))
-    × (writing (words 1 none (2 ∷ []) [] [] [] []) (7 ∷ 8 ∷ []) ≡ wrote (Unwritten Misshapen 0) (7 ∷ 8 ∷ []))
-    × (writing (words 1 none [] [] (2 ∷ []) [] []) (7 ∷ 8 ∷ []) ≡ wrote (Unwritten Misshapen 0) (7 ∷ 8 ∷ []))
-    × (writing (words 1 (1 ∷ 0 ∷ 0 ∷ 0 ∷ 0 ∷ []) [] [] [] [] (4 ∷ [])) (7 ∷ 8 ∷ []) ≡ wrote (Unwritten (Over (literal 4)) 0) (7 ∷ 8 ∷ []))
-    × (writing (words 1 none (2 ∷ []) (5 ∷ []) [] [] []) (7 ∷ 8 ∷ []) ≡ wrote (Unwritten (Reset (literal 5)) 0) (7 ∷ 8 ∷ []))
-    × (writing (words 1 none [] [] (4 ∷ 2 ∷ []) [] []) (7 ∷ 8 ∷ []) ≡ wrote (Unwritten (Disordered (literal 4)) 0) (7 ∷ 8 ∷ []))
-    × (writing (words 1 none [] [] (2 ∷ 3 ∷ []) [] []) (7 ∷ 8 ∷ []) ≡ wrote (Unwritten (Disordered (literal 4)) 0) (7 ∷ 8 ∷ []))
+    × (writing (words 0 none [] [] [] [] (0 ∷ [])) (7 ∷ 8 ∷ []) ≡ wrote (unwritten Misshapen 0) (7 ∷ 8 ∷ []))
+    × (writing (words 0 none [] [] [] (1 ∷ []) []) (7 ∷ 8 ∷ []) ≡ wrote (unwritten Misshapen 0) (7 ∷ 8 ∷ []))
+    × (writing (words 1 none (2 ∷ []) [] [] [] []) (7 ∷ 8 ∷ []) ≡ wrote (unwritten Misshapen 0) (7 ∷ 8 ∷ []))
+    × (writing (words 1 none [] [] (2 ∷ []) [] []) (7 ∷ 8 ∷ []) ≡ wrote (unwritten Misshapen 0) (7 ∷ 8 ∷ []))
+    × (writing (words 1 (1 ∷ 0 ∷ 0 ∷ 0 ∷ 0 ∷ []) [] [] [] [] (4 ∷ [])) (7 ∷ 8 ∷ []) ≡ wrote (unwritten (Over (literal 4)) 0) (7 ∷ 8 ∷ []))
+    × (writing (words 1 none (2 ∷ []) (5 ∷ []) [] [] []) (7 ∷ 8 ∷ []) ≡ wrote (unwritten (Reset (literal 5)) 0) (7 ∷ 8 ∷ []))
+    × (writing (words 1 none [] [] (4 ∷ 2 ∷ []) [] []) (7 ∷ 8 ∷ []) ≡ wrote (unwritten (Disordered (literal 4)) 0) (7 ∷ 8 ∷ []))
+    × (writing (words 1 none [] [] (2 ∷ 3 ∷ []) [] []) (7 ∷ 8 ∷ []) ≡ wrote (unwritten (Disordered (literal 4)) 0) (7 ∷ 8 ∷ []))
     -- the gate mended, it is 3; with just as many bytes it is written, and the gate as it was is not
-    × (writing (words 1 none [] [] (3 ∷ 2 ∷ []) [] []) (7 ∷ 8 ∷ []) ≡ wrote (Unwritten Short 22) (7 ∷ 8 ∷ []))
-    × (writing (words 1 none [] [] (3 ∷ 2 ∷ []) [] []) (replicate 22 99) ≡ wrote (Written 22) mended)
-    × (writing (words 1 none [] [] (2 ∷ 3 ∷ []) [] []) (replicate 22 99) ≡ wrote (Unwritten (Disordered (literal 4)) 0) (replicate 22 99))
+    × (writing (words 1 none [] [] (3 ∷ 2 ∷ []) [] []) (7 ∷ 8 ∷ []) ≡ wrote (unwritten Short 22) (7 ∷ 8 ∷ []))
+    × (writing (words 1 none [] [] (3 ∷ 2 ∷ []) [] []) (replicate 22 99) ≡ wrote (Ok 22) mended)
+    × (writing (words 1 none [] [] (2 ∷ 3 ∷ []) [] []) (replicate 22 99) ≡ wrote (unwritten (Disordered (literal 4)) 0) (replicate 22 99))
 unfolding digits_of line_bytes count_bytes reset_bytes latch_bytes after_tag roots_bytes first_code input_lines stated_bytes gate_line parts_of checked too_large uneven
     writing
 writing_pinned = (refl, refl, refl, refl, refl, refl, refl, refl, refl, refl, refl, refl, refl, refl, refl)
 
 -- 1, before 3 too
-pub too_big_pinned : writing (words 1048576 none [] [] [] [] []) (7 ∷ 8 ∷ []) ≡ wrote (Unwritten TooBig 0) (7 ∷ 8 ∷ [])
+pub too_big_pinned : writing (words 1048576 none [] [] [] [] []) (7 ∷ 8 ∷ []) ≡ wrote (unwritten TooBig 0) (7 ∷ 8 ∷ [])
 unfolding checked too_large writing
 too_big_pinned = refl

@@ -3,7 +3,7 @@ use Prim.Native.Nat.{ℕ, zero, suc, ◌+◌, ◌*◌, ◌%◌, ◌^◌, ◌≤�
 use mathlib.Core.Path.{◌≡◌, refl, sym, ap}
 use mathlib.Core.Bool.{Bool}
 use mathlib.Core.Logic.{inl, inr}
-use mathlib.Core.Option.{none}
+use Rattle.std.specs.Prelude.{None}
 use mathlib.Core.List.{List, [], ◌∷◌, ◌++◌}
 use native.Mathlib.Omega.{arith}
 use lib.ListN.{length, get_or}
@@ -88,7 +88,7 @@ stated_length t (n ∷ ns) [] e = absurd (omega arith)
 stated_length t (n ∷ ns) (r ∷ rs) e = ap suc (stated_length (t + 2) ns rs (omega arith))
 
 stated_row : (most t k : ℕ) (ns rs : List ℕ) → length rs ≡ length ns → 1 ≤ t → t % 2 ≡ 0 → t + 2 * length ns ≤ most + 2 → AllWithin most ns → AllWithin most rs
-    → most < 2 ^ 64 → first_stray (count_from t (length ns)) rs ≡ none → Row (λ _. StatedLine most) k (stated_from t ns rs) (stated_lines t ns rs)
+    → most < 2 ^ 64 → first_stray (count_from t (length ns)) rs ≡ None → Row (λ _. StatedLine most) k (stated_from t ns rs) (stated_lines t ns rs)
 unfolding stated_bytes
 stated_row most t k [] rs e some even end low small fits pass = refl
 stated_row most t k (n ∷ ns) [] e some even end low small fits pass = absurd (omega arith)

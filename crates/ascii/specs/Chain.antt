@@ -1,10 +1,9 @@
 -- From the bytes of a text to those of a binary file, and back: the text is read, its lists are lent to renumbering, the result is written as binary, and that
 -- is read; and how it ends. Assumes nothing.
-use Rattle.std.specs.Prelude.{ℕ, ◌+◌, ◌*◌, ◌<◌, ◌≤◌, ◌≡◌, Bool, false, List, length, take, get_or}
+use Rattle.std.specs.Prelude.{ℕ, ◌+◌, ◌*◌, ◌<◌, ◌≤◌, ◌≡◌, Bool, false, List, length, take, get_or, Ok, Err}
 use Rattle.lit.specs.Code.{variable}
 use Rattle.circuit.specs.declared.Refusal.{Refusal}
 use Rattle.circuit.specs.declared.Summary.{Summary}
-use Rattle.circuit.specs.declared.Answer.TheVariants as A
 use Rattle.circuit.specs.Graph.{Graph}
 use Rattle.circuit.specs.Walk.{stopped}
 use Rattle.circuit.specs.Circuit.{graph, renumber}
@@ -16,12 +15,11 @@ use Rattle.lines.specs.declared.Fault.{Fault}
 use Rattle.lines.specs.Reading.{got, no}
 use Rattle.binary.specs.File as B
 use Rattle.binary.specs.Sound.{result_with}
-use Rattle.binary.specs.declared.FileWritten.TheVariants.{Written}
 use Rattle.binary.specs.Write.{file_of}
 use Rattle.binary.specs.Archive.{archiving, FitsOrShort}
 use Rattle.ascii.specs.declared.TextRead.{TextRead}
 use Rattle.ascii.specs.Text.{Text, circuit_in, read_text}
-use Rattle.ascii.specs.Promise.{Lists, room_of, Outcome, left, outcome}
+use Rattle.ascii.specs.Promise.{Lists, room_of, numbers, Outcome, left, outcome}
 
 -- what a caller lends on the way beside the bytes: the lists of the text, those that renumbering writes, the flags; and how many cells the lists have into
 -- which the binary file is read back
@@ -41,9 +39,10 @@ pub record Lending : Type 0 where
 -- after a reading that left r renumbering is lent the numbers that reading answered, the fronts of the lists that it left, and the lists to be written: V is M
 abbrev pub handed : Outcome → Lending → Lent
 handed r g =
-    lent_of (record { top = variable r.read.top; counts = r.read.counts; trim = g.trim; hash = g.hash; fold = g.fold })
-    (take r.read.inputs r.lists.inputs) (take r.read.latches r.lists.states) (take r.read.latches r.lists.nexts)
-    (take r.read.latches r.lists.resets) (take (3 * r.read.gates) r.lists.gates) (take (total r.read.counts) r.lists.roots) g.map
+    let n = numbers r.read in
+    lent_of (record { top = variable n.top; counts = n.counts; trim = g.trim; hash = g.hash; fold = g.fold })
+    (take n.inputs r.lists.inputs) (take n.latches r.lists.states) (take n.latches r.lists.nexts)
+    (take n.latches r.lists.resets) (take (3 * n.gates) r.lists.gates) (take (total n.counts) r.lists.roots) g.map
     g.next_images g.reset_images g.root_images g.gates_out g.scratch
 
 abbrev pub handed_from : List ℕ → Lending → Lent
@@ -84,7 +83,7 @@ pub record KeepsText (t : Text) (D : Ordered) : Type 0 where
 pub record Returns (t : Text) (made : B.File) (out : List ℕ) (room : B.Room) : Type 0 where
   pub bytes : ℕ
   pub file : B.File
-  pub written : (archiving made out).answer ≡ Written bytes
+  pub written : (archiving made out).answer ≡ Ok bytes
   pub read : B.read_file (take bytes (archiving made out).bytes) room ≡ got file bytes
   pub keeps : KeepsText t file.ordered
   pub sizes : file.sizes ≡ t.sizes
@@ -95,11 +94,11 @@ pub data Chain (bytes : List ℕ) (g : Lending) (out : List ℕ) : Type 0 where
   refused : (why : Fault) (place : ℕ) → outcome bytes g.text ≡ left (no why place) g.text → Chain bytes g out
   -- it is read as t, and renumbering refuses t's lists as document 01 does: by 5, 6, 7 or 8, with its literal
   unordered : (t : Text) (used : ℕ) → read_text bytes (room_of g.text) ≡ got t used → (r : Refusal)
-      → renumber (circuit_in t g.trim g.hash g.fold) ≡ stopped r → Late r → (C.outcome (handed_from bytes g)).answer ≡ A.Refused r → Chain bytes g out
+      → renumber (circuit_in t g.trim g.hash g.fold) ≡ stopped r → Late r → (C.outcome (handed_from bytes g)).answer ≡ Err r → Chain bytes g out
   -- it is read as t and renumbered, and what is made keeps t; with t's justice sizes nothing but too few bytes can be wrong with writing it, and where they
   -- suffice it returns
   archived : (t : Text) (used : ℕ) → read_text bytes (room_of g.text) ≡ got t used → (s : Summary)
-      → (C.outcome (handed_from bytes g)).answer ≡ A.Renumbered s → KeepsText t (held (handed_from bytes g) s (C.outcome (handed_from bytes g)))
+      → (C.outcome (handed_from bytes g)).answer ≡ Ok s → KeepsText t (held (handed_from bytes g) s (C.outcome (handed_from bytes g)))
       → FitsOrShort (result_with (handed_from bytes g) s t.sizes) (archiving (result_with (handed_from bytes g) s t.sizes) out).answer
       → (length (file_of (result_with (handed_from bytes g) s t.sizes)) ≤ length out → Returns t (result_with (handed_from bytes g) s t.sizes) out g.back)
       → Chain bytes g out

@@ -1,12 +1,12 @@
 -- The words of the contracts: the answer for what is read, and what is left of each lent list. Assumes nothing.
-use Rattle.std.specs.Prelude.{ℕ, ◌*◌, ◌≤◌, ◌≡◌, List, [], ◌∷◌, length}
+use Rattle.std.specs.Prelude.{ℕ, ◌*◌, ◌≤◌, ◌≡◌, List, [], ◌∷◌, length, Result, Ok, Err}
 use Rattle.circuit.specs.Outcome.{total, onto, zeros}
 use Rattle.lines.specs.declared.Header.{Header}
+use Rattle.lines.specs.declared.Broken.{Broken}
 use Rattle.lines.specs.declared.Reading.{Reading}
-use Rattle.lines.specs.declared.Reading.TheVariants.{Is, Not}
 use Rattle.lines.specs.Reading.{Read, got, no}
+use Rattle.lines.specs.Promise.{broken, reading_of}
 use Rattle.ordered.specs.Expand.{gate_words}
-use Rattle.binary.specs.declared.FileAnswer.TheVariants.{Taken, Refused}
 use Rattle.ascii.specs.declared.TextRead.{TextRead}
 use Rattle.ascii.specs.Text.{Text, Room, read_text}
 
@@ -63,15 +63,15 @@ cleared l =
     }
 
 -- the text but for its header is stored, and the number of justice literals is answered
-abbrev pub StoresText : Read Text → Reading → Lists → Lists → Type 0
-StoresText (got t at) r before after = (r ≡ Is (total t.sizes) at) × (after ≡ written t before)
-StoresText (no why place) r before after = r ≡ Not why place
+abbrev pub StoresText : Read Text → Result Reading Broken → Lists → Lists → Type 0
+StoresText (got t at) r before after = (r ≡ Ok (reading_of (total t.sizes) at)) × (after ≡ written t before)
+StoresText (no why place) r before after = r ≡ broken why place
 
--- the answer, beside the numbers of what is taken
-abbrev pub answered : Read Text → TextRead
-answered (got t at) =
+-- the bytes that a text took, and its numbers
+abbrev pub text_read : Text → ℕ → TextRead
+text_read t at =
     record {
-      answer = Taken at;
+      used = at;
       top = t.top;
       inputs = length t.inputs;
       latches = length t.states;
@@ -79,15 +79,28 @@ answered (got t at) =
       counts = t.counts;
       sets = length t.sizes;
     }
-answered (no why place) =
-    record { answer = Refused why place; top = 0; inputs = 0; latches = 0; gates = 0; counts = 0 ∷ 0 ∷ 0 ∷ 0 ∷ 0 ∷ []; sets = 0 }
+
+-- the answer
+abbrev pub answered : Read Text → Result TextRead Broken
+answered (got t at) = Ok (text_read t at)
+answered (no why place) = broken why place
+
+-- the numbers of what is taken; all 0 for a refusal
+abbrev pub numbers : Result TextRead Broken → TextRead
+numbers (Ok r) = r
+numbers (Err e) = record { used = 0; top = 0; inputs = 0; latches = 0; gates = 0; counts = 0 ∷ 0 ∷ 0 ∷ 0 ∷ 0 ∷ []; sets = 0 }
+
+-- the whole text is stored and answered
+abbrev pub StoresRead : Read Text → Result TextRead Broken → Lists → Lists → Type 0
+StoresRead (got t at) r before after = (r ≡ Ok (text_read t at)) × (after ≡ written t before)
+StoresRead (no why place) r before after = r ≡ broken why place
 
 -- the answer and the lent lists afterwards
 pub record Outcome : Type 0 where
-  pub read : TextRead
+  pub read : Result TextRead Broken
   pub lists : Lists
 
-abbrev pub seen : TextRead → Lists → Outcome
+abbrev pub seen : Result TextRead Broken → Lists → Outcome
 seen read lists = record { read = read; lists = lists }
 
 -- what is left of a reading: the text in the lists; all lists cleared where it is refused

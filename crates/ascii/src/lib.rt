@@ -7,24 +7,23 @@ ghost use Rattle.std.specs.Prelude.{◌≡◌, ◌+◌, ◌*◌, ◌≤◌, leng
 ghost use Rattle.circuit.specs.Outcome.{limit};
 ghost use Rattle.lines.specs.Promise.{ended};
 ghost use Rattle.lines.specs.Limits.{Within};
-ghost use Rattle.lines.specs.Reading.{no};
 ghost use Rattle.ordered.specs.Given.{Given};
 ghost use Rattle.binary.specs.Write.{file_in, wrote, written_to};
-ghost use Rattle.ascii.specs.Text.{room_for, sized_at, lists_at, body_at};
-ghost use Rattle.ascii.specs.Promise.{StoresText, Roomy, room_of, seen, left, outcome};
+ghost use Rattle.ascii.specs.Text.{room_for, sized_at, lists_at, body_at, read_text};
+ghost use Rattle.ascii.specs.Promise.{StoresText, StoresRead, Roomy, room_of, lists_of, cleared, seen, outcome};
 ghost use Rattle.ascii.specs.Write.{text_of, writing};
 
-use binary::{FileAnswer, FileWritten};
+use binary::Unwritten;
 use lent::words::{fill, wide};
-use lines::{Ended, Fault, FirstLine, Header, Reading};
+use lines::{Broken, Fault, Header, Reading};
 use lit::Lit;
-use ordered::given::{Checked, Shape};
+use ordered::given::Shape;
 
-// The answer, and of a text that is taken M, the numbers of inputs, latches and gates, the five root counts in walk order, and the number of justice
-// sets; all 0 for a refusal.
+// What is read of a text that is taken: the bytes it took; M; the numbers of inputs, latches and gates; the five root counts in walk order; and the number
+// of justice sets.
 #[derive(Clone, Copy)]
 pub struct TextRead {
-    pub answer: FileAnswer,
+    pub used: usize,
     pub top: u32,
     pub inputs: u32,
     pub latches: u32,
@@ -34,6 +33,7 @@ pub struct TextRead {
 }
 
 // Right after the header: 3 for a list that is too short, other than the roots'. M may be above I + L + A.
+#[tactic(auto, unfolding(crate::specs::Text::sized_at))]
 fn sized(
     h: Header,
     at: usize,
@@ -43,50 +43,27 @@ fn sized(
     resets: usize,
     gates: usize,
     sizes: usize,
-) -> Ended
+) -> Result<usize, Broken>
     requires { Within h }
     ensures { result ≡ ended (sized_at h (room_for inputs states nexts resets gates sizes) at) }
 {
-    if inputs < wide(h.inputs) {
-        return Ended::Broken {
+    if inputs < wide(h.inputs)
+        || states < wide(h.latches)
+        || nexts < wide(h.latches)
+        || resets < wide(h.latches)
+        || gates < 3 * wide(h.gates)
+        || sizes < wide(h.justice)
+    {
+        return Err(Broken {
             why: Fault::Short,
             place: at,
-        };
+        });
     }
-    if states < wide(h.latches) {
-        return Ended::Broken {
-            why: Fault::Short,
-            place: at,
-        };
-    }
-    if nexts < wide(h.latches) {
-        return Ended::Broken {
-            why: Fault::Short,
-            place: at,
-        };
-    }
-    if resets < wide(h.latches) {
-        return Ended::Broken {
-            why: Fault::Short,
-            place: at,
-        };
-    }
-    if gates < 3 * wide(h.gates) {
-        return Ended::Broken {
-            why: Fault::Short,
-            place: at,
-        };
-    }
-    if sizes < wide(h.justice) {
-        return Ended::Broken {
-            why: Fault::Short,
-            place: at,
-        };
-    }
-    Ended::After(at)
+    Ok(at)
 }
 
 // From the first input line on, where the lists are long enough: the number of justice literals.
+#[tactic(auto, unfolding(crate::specs::Text::lists_at))]
 fn lists(
     s: &[u8],
     at: usize,
@@ -98,75 +75,33 @@ fn lists(
     gates: &mut [u32],
     sizes: &mut [u32],
     roots: &mut [u32],
-) -> Reading
-    requires { (Within h) × (Roomy h (room_of (record {
-      inputs = inputs.old;
-      states = states.old;
-      nexts = nexts.old;
-      resets = resets.old;
-      gates = gates.old;
-      sizes = sizes.old;
-      roots = roots.old;
-    }))) }
-    ensures { StoresText (lists_at s.now (length roots.old) h at) result (record {
-      inputs = inputs.old;
-      states = states.old;
-      nexts = nexts.old;
-      resets = resets.old;
-      gates = gates.old;
-      sizes = sizes.old;
-      roots = roots.old;
-    }) (record {
-      inputs = inputs.new;
-      states = states.new;
-      nexts = nexts.new;
-      resets = resets.new;
-      gates = gates.new;
-      sizes = sizes.new;
-      roots = roots.new;
-    }) }
+) -> Result<Reading, Broken>
+    requires { (Within h) × (Roomy h (room_of (lists_of inputs.old states.old nexts.old resets.old gates.old sizes.old roots.old))) }
+    ensures { StoresText (lists_at s.now (length roots.old) h at) result (lists_of inputs.old states.old nexts.old resets.old gates.old sizes.old roots.old)
+        (lists_of inputs.new states.new nexts.new resets.new gates.new sizes.new roots.new) }
 {
     let most = 2 * h.top + 1;
-    let listed = ascii_lines::inputs(s, at, most, wide(h.inputs), inputs);
-    match listed {
-        Ended::After(place_l) => {
-            let latched = ascii_lines::latches(
-                s,
-                place_l,
-                most,
-                wide(h.latches),
-                states,
-                nexts,
-                resets,
-            );
-            match latched {
-                Ended::After(place_r) => {
-                    let rooted = lines::roots(s, place_r, h, most, sizes, roots);
-                    match rooted {
-                        Reading::Is {
-                            value: justice,
-                            after: place_g,
-                        } => {
-                            let gated = ascii_lines::gates(s, place_g, most, h.gates, gates);
-                            match gated {
-                                Ended::After(after) => Reading::Is {
-                                    value: justice,
-                                    after,
-                                },
-                                Ended::Broken { why, place } => Reading::Not { why, place },
-                            }
-                        }
-                        Reading::Not { why, place } => Reading::Not { why, place },
-                    }
-                }
-                Ended::Broken { why, place } => Reading::Not { why, place },
-            }
-        }
-        Ended::Broken { why, place } => Reading::Not { why, place },
-    }
+    let latches = wide(h.latches);
+    let after_inputs = ascii_lines::inputs(s, at, most, wide(h.inputs), inputs)?;
+    let after_latches = ascii_lines::latches(
+        s,
+        after_inputs,
+        most,
+        latches,
+        states,
+        nexts,
+        resets,
+    )?;
+    let rooted = lines::roots(s, after_latches, h, most, sizes, roots)?;
+    let after = ascii_lines::gates(s, rooted.after, most, h.gates, gates)?;
+    Ok(Reading {
+        value: rooted.value,
+        after,
+    })
 }
 
 // From the end of the header on: the number of justice literals.
+#[tactic(auto, unfolding(crate::specs::Text::body_at))]
 fn body(
     s: &[u8],
     at: usize,
@@ -178,35 +113,12 @@ fn body(
     gates: &mut [u32],
     sizes: &mut [u32],
     roots: &mut [u32],
-) -> Reading
+) -> Result<Reading, Broken>
     requires { Within h }
-    ensures { StoresText (body_at s.now (room_of (record {
-      inputs = inputs.old;
-      states = states.old;
-      nexts = nexts.old;
-      resets = resets.old;
-      gates = gates.old;
-      sizes = sizes.old;
-      roots = roots.old;
-    })) h at) result (record {
-      inputs = inputs.old;
-      states = states.old;
-      nexts = nexts.old;
-      resets = resets.old;
-      gates = gates.old;
-      sizes = sizes.old;
-      roots = roots.old;
-    }) (record {
-      inputs = inputs.new;
-      states = states.new;
-      nexts = nexts.new;
-      resets = resets.new;
-      gates = gates.new;
-      sizes = sizes.new;
-      roots = roots.new;
-    }) }
+    ensures { StoresText (body_at s.now (room_of (lists_of inputs.old states.old nexts.old resets.old gates.old sizes.old roots.old)) h at) result (lists_of inputs.old states.old nexts.old resets.old gates.old sizes.old roots.old)
+        (lists_of inputs.new states.new nexts.new resets.new gates.new sizes.new roots.new) }
 {
-    let room = sized(
+    let next = sized(
         h,
         at,
         inputs.len(),
@@ -215,19 +127,16 @@ fn body(
         resets.len(),
         gates.len(),
         sizes.len(),
-    );
-    match room {
-        Ended::After(next) => lists(
-            s, next, h, inputs, states, nexts, resets, gates, sizes, roots,
-        ),
-        Ended::Broken { why, place } => Reading::Not { why, place },
-    }
+    )?;
+    lists(
+        s, next, h, inputs, states, nexts, resets, gates, sizes, roots,
+    )
 }
 
-// A refusal, which clears every cell of every list.
-fn refused(
-    why: Fault,
-    place: usize,
+// The whole text; where it is refused, nothing is said of the lists yet.
+#[tactic(auto, unfolding(crate::specs::Text::read_text))]
+fn taken(
+    s: &[u8],
     inputs: &mut [u32],
     states: &mut [u32],
     nexts: &mut [u32],
@@ -235,24 +144,47 @@ fn refused(
     gates: &mut [u32],
     sizes: &mut [u32],
     roots: &mut [u32],
-) -> TextRead
-    ensures { seen result (record {
-      inputs = inputs.new;
-      states = states.new;
-      nexts = nexts.new;
-      resets = resets.new;
-      gates = gates.new;
-      sizes = sizes.new;
-      roots = roots.new;
-    }) ≡ left (no why place) (record {
-      inputs = inputs.old;
-      states = states.old;
-      nexts = nexts.old;
-      resets = resets.old;
-      gates = gates.old;
-      sizes = sizes.old;
-      roots = roots.old;
-    }) }
+) -> Result<TextRead, Broken>
+    ensures { StoresRead (read_text s.now (room_of (lists_of inputs.old states.old nexts.old resets.old gates.old sizes.old roots.old))) result (lists_of inputs.old states.old nexts.old resets.old gates.old sizes.old roots.old)
+        (lists_of inputs.new states.new nexts.new resets.new gates.new sizes.new roots.new) }
+{
+    let first = lines::read_header(s, b'a')?;
+    let h = first.header;
+    let rest = body(
+        s,
+        first.after,
+        h,
+        inputs,
+        states,
+        nexts,
+        resets,
+        gates,
+        sizes,
+        roots,
+    )?;
+    Ok(TextRead {
+        used: rest.after,
+        top: h.top,
+        inputs: h.inputs,
+        latches: h.latches,
+        gates: h.gates,
+        counts: [h.outputs, h.bad, h.constraints, h.fairness, rest.value],
+        sets: h.justice,
+    })
+}
+
+// Every cell of every list 0.
+fn clear(
+    inputs: &mut [u32],
+    states: &mut [u32],
+    nexts: &mut [u32],
+    resets: &mut [u32],
+    gates: &mut [u32],
+    sizes: &mut [u32],
+    roots: &mut [u32],
+)
+    ensures { lists_of inputs.new states.new nexts.new resets.new gates.new sizes.new roots.new
+        ≡ cleared (lists_of inputs.old states.old nexts.old resets.old gates.old sizes.old roots.old) }
 {
     fill(inputs, 0);
     fill(states, 0);
@@ -261,15 +193,6 @@ fn refused(
     fill(gates, 0);
     fill(sizes, 0);
     fill(roots, 0);
-    TextRead {
-        answer: FileAnswer::Refused { why, place },
-        top: 0,
-        inputs: 0,
-        latches: 0,
-        gates: 0,
-        counts: [0; 5],
-        sets: 0,
-    }
 }
 
 // Reads a text file: its inputs, latch states, next states, resets (0 where the field is absent), gates (three words each, in the order of the file),
@@ -284,7 +207,7 @@ pub fn read(
     gates: &mut [u32],
     sizes: &mut [u32],
     roots: &mut [u32],
-) -> TextRead
+) -> Result<TextRead, Broken>
     ensures { seen result (record {
       inputs = inputs.new;
       states = states.new;
@@ -303,40 +226,11 @@ pub fn read(
       roots = roots.old;
     }) }
 {
-    let first = lines::read_header(bytes, b'a');
-    match first {
-        FirstLine::Counts { header, after } => {
-            let rest = body(
-                bytes, after, header, inputs, states, nexts, resets, gates, sizes, roots,
-            );
-            match rest {
-                Reading::Is {
-                    value: justice,
-                    after: used,
-                } => TextRead {
-                    answer: FileAnswer::Taken(used),
-                    top: header.top,
-                    inputs: header.inputs,
-                    latches: header.latches,
-                    gates: header.gates,
-                    counts: [
-                        header.outputs,
-                        header.bad,
-                        header.constraints,
-                        header.fairness,
-                        justice,
-                    ],
-                    sets: header.justice,
-                },
-                Reading::Not { why, place } => refused(
-                    why, place, inputs, states, nexts, resets, gates, sizes, roots,
-                ),
-            }
-        }
-        FirstLine::NoCounts { why, place } => refused(
-            why, place, inputs, states, nexts, resets, gates, sizes, roots,
-        ),
+    let read = taken(bytes, inputs, states, nexts, resets, gates, sizes, roots);
+    if read.is_err() {
+        clear(inputs, states, nexts, resets, gates, sizes, roots);
     }
+    read
 }
 
 // How many bytes the text of a circuit with so many variables, roots and justice sets has at most.
@@ -356,7 +250,7 @@ fn fitted(
     sizes: &[u32],
     roots: &[u32],
     out: &mut [u8],
-) -> FileWritten
+) -> Result<usize, Unwritten>
     requires { Given (record {
       inputs = o.inputs;
       counts = o.counts;
@@ -378,23 +272,23 @@ fn fitted(
 {
     let h = put::header_for(o, nexts.len(), gates.len() / 2, sizes.len());
     if most_bytes(wide(h.top), roots.len(), sizes.len()) <= out.len() {
-        let written = put::put_text(out, h, nexts, resets, gates, sizes, roots);
-        return FileWritten::Written(written);
+        return Ok(put::put_text(out, h, nexts, resets, gates, sizes, roots));
     }
     let needed = put::put_text(&mut out[..0], h, nexts, resets, gates, sizes, roots);
     if out.len() < needed {
-        return FileWritten::Unwritten {
+        return Err(Unwritten {
             why: ordered::given::Fault::Short,
             needed,
-        };
+        });
     }
     put::put_text(out, h, nexts, resets, gates, sizes, roots);
-    FileWritten::Written(needed)
+    Ok(needed)
 }
 
 // Writes an ordered circuit as a text into the lent bytes, whose other bytes stay: V is computed, optional counts stop at the last that is not zero, a
 // latch line has a reset only where it is not 0, inputs, states and gate outputs are spelled out. What is no ordered circuit is refused, and then 3 where
 // the bytes are too few: nothing is written.
+#[tactic(auto, unfolding(crate::specs::Write::writing))]
 pub fn write(
     o: Shape,
     nexts: &[u32],
@@ -403,7 +297,7 @@ pub fn write(
     sizes: &[u32],
     roots: &[u32],
     out: &mut [u8],
-) -> FileWritten
+) -> Result<usize, Unwritten>
     ensures { wrote result out.new ≡ writing (record {
       inputs = o.inputs;
       counts = o.counts;
@@ -414,9 +308,6 @@ pub fn write(
       roots = roots.now;
     }) out.old }
 {
-    let checked = ordered::given::check(o, nexts, resets, gates, sizes, roots, Lit::from_code(0));
-    match checked {
-        Checked::Fits => fitted(o, nexts, resets, gates, sizes, roots, out),
-        Checked::Faulty(why) => FileWritten::Unwritten { why, needed: 0 },
-    }
+    ordered::given::check(o, nexts, resets, gates, sizes, roots, Lit::from_code(0))?;
+    fitted(o, nexts, resets, gates, sizes, roots, out)
 }

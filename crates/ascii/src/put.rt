@@ -1,7 +1,6 @@
 // The bytes of a text, put into lent bytes. What does not fit is not written, and the place after it is answered all the same.
 ghost use Rattle.std.specs.Prelude.{◌≡◌, ◌+◌, ◌*◌, ◌≤◌, length};
-ghost use Rattle.place.specs.Place.{further};
-ghost use Rattle.text.specs.Put.{put_all};
+ghost use Rattle.text.specs.Put.{Puts};
 ghost use Rattle.circuit.specs.Walk.{first_code};
 ghost use Rattle.circuit.specs.Ordered.{first_latch};
 ghost use Rattle.circuit.specs.Outcome.{limit, pairs_of};
@@ -15,20 +14,18 @@ use ordered::given::Shape;
 // Input lines, of the codes 2, 4, ..; the place after them.
 fn put_inputs(out: &mut [u8], at: usize, n: u32) -> usize
     requires { n ≤ limit }
-    ensures { (out.new ≡ put_all out.old at (input_lines n)) × (result ≡ further at (length (input_lines n))) }
+    ensures { Puts out.old at (input_lines n) out.new result }
 {
-    let mut i: u32 = 0;
     let mut place = at;
-    while i < n {
+    for i in 0..n {
         place = sections::put_line(out, place, 2 + 2 * i);
-        i += 1;
     }
     place
 }
 
 // A latch's line: its state, a space, and the rest as in the other form; the place after it.
 fn put_stated(out: &mut [u8], at: usize, state: u32, next: u32, reset: u32) -> usize
-    ensures { (out.new ≡ put_all out.old at (stated_bytes state next reset)) × (result ≡ further at (length (stated_bytes state next reset))) }
+    ensures { Puts out.old at (stated_bytes state next reset) out.new result }
 {
     let after_state = text::put_decimal(out, at, state as u64);
     let after_space = text::put(out, after_state, b' ');
@@ -38,24 +35,20 @@ fn put_stated(out: &mut [u8], at: usize, state: u32, next: u32, reset: u32) -> u
 // Latch lines, of the states after I inputs, and of next states and resets side by side, as long as both last; the place after them.
 fn put_latches(out: &mut [u8], at: usize, inputs: u32, nexts: &[u32], resets: &[u32]) -> usize
     requires { inputs + length nexts.now ≤ limit }
-    ensures { (out.new ≡ put_all out.old at (stated_lines (first_latch inputs) nexts.now resets.now))
-        × (result ≡ further at (length (stated_lines (first_latch inputs) nexts.now resets.now))) }
+    ensures { Puts out.old at (stated_lines (first_latch inputs) nexts.now resets.now) out.new result }
 {
-    let n = sections::smaller(nexts.len(), resets.len());
     let mut state = 2 + 2 * inputs;
-    let mut i: usize = 0;
     let mut place = at;
-    while i < n {
-        place = put_stated(out, place, state, nexts[i], resets[i]);
+    for (next, reset) in nexts.iter().zip(resets) {
+        place = put_stated(out, place, state, *next, *reset);
         state += 2;
-        i += 1;
     }
     place
 }
 
 // A gate's line: its output, its two inputs with a space before each, a newline; the place after it.
 fn put_gate(out: &mut [u8], at: usize, output: u32, first: u32, second: u32) -> usize
-    ensures { (out.new ≡ put_all out.old at (gate_line output first second)) × (result ≡ further at (length (gate_line output first second))) }
+    ensures { Puts out.old at (gate_line output first second) out.new result }
 {
     let after_output = text::put_decimal(out, at, output as u64);
     let after_first = sections::put_count(out, after_output, first);
@@ -66,17 +59,14 @@ fn put_gate(out: &mut [u8], at: usize, output: u32, first: u32, second: u32) -> 
 // Gate lines, of gates after n inputs and latches, two words each; the place after them.
 fn put_gates(out: &mut [u8], at: usize, n: usize, gates: &[u32]) -> usize
     requires { 2 * n + length gates.now ≤ 2097150 }
-    ensures { (out.new ≡ put_all out.old at (gate_lines (first_code n) (pairs_of gates.now)))
-        × (result ≡ further at (length (gate_lines (first_code n) (pairs_of gates.now)))) }
+    ensures { Puts out.old at (gate_lines (first_code n) (pairs_of gates.now)) out.new result }
 {
-    let g = gates.len() / 2;
     let mut code = 2 * (n + 1);
-    let mut j: usize = 0;
     let mut place = at;
-    while j < g {
+    // By index: a gate is two words side by side, which pieces of two words would still be read by index for.
+    for j in 0..gates.len() / 2 {
         place = put_gate(out, place, code as u32, gates[2 * j], gates[2 * j + 1]);
         code += 2;
-        j += 1;
     }
     place
 }
@@ -111,10 +101,8 @@ pub fn put_text(
     roots: &[u32],
 ) -> usize
     requires { 2 * (h.inputs + length nexts.now) + length gates.now ≤ 2097150 }
-    ensures { (out.new ≡ put_all out.old 0 (parts_of h nexts.now resets.now sizes.now roots.now
-        (h.inputs + length nexts.now) (pairs_of gates.now)))
-        × (result ≡ further 0 (length (parts_of h nexts.now resets.now sizes.now roots.now (h.inputs + length nexts.now)
-        (pairs_of gates.now)))) }
+    ensures { Puts out.old 0 (parts_of h nexts.now resets.now sizes.now roots.now
+        (h.inputs + length nexts.now) (pairs_of gates.now)) out.new result }
 {
     let sources = wide(h.inputs) + nexts.len();
     let after_header = sections::put_header(out, 0, b"aag", h);

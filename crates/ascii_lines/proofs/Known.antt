@@ -5,7 +5,7 @@ use mathlib.Core.Path.{◌≡◌, refl, ◌∙◌, subst}
 use mathlib.Core.Bool.{true}
 use mathlib.Core.Logic.{inl, inr}
 use mathlib.Core.List.{List, [], ◌∷◌, map}
-use mathlib.Core.Option.{none}
+use Rattle.std.specs.Prelude.{None}
 use native.Mathlib.Omega.{arith}
 use lib.ListN.{length, length-map}
 use Rattle.circuit.specs.Graph.{In, Gate}
@@ -84,7 +84,7 @@ stated_sound s most at l end e =
         subst (Sound most) (got_same same) (record { state = literal; next = low.0; reset = low.1; may = latch_may s most state p k q read })
 
 -- no line's reset is a stray, so there is none in the list
-none_stray_lem : (ls : List Stated) → ((l : Stated) → In l ls → is_reset l.state l.reset ≡ true) → first_stray (states_of ls) (resets_of ls) ≡ none
+none_stray_lem : (ls : List Stated) → ((l : Stated) → In l ls → is_reset l.state l.reset ≡ true) → first_stray (states_of ls) (resets_of ls) ≡ None
 none_stray_lem [] may = refl
 none_stray_lem (l ∷ ls) may = rw (may l (inl refl)) (none_stray_lem ls (λ k i. may k (inr i)))
 
@@ -119,7 +119,7 @@ module _ (s : List ℕ) (most n at : ℕ) (ls : List Stated) (end : ℕ) (e : la
   states_defined =
       each_of (λ c. (1 ≤ c) × (c % 2 ≡ 0)) (λ l. l.state) ls (λ l i. let v = (latches_each l i).state in (v.some, v.even))
 
-  pub latches_no_stray : first_stray (states_of ls) (resets_of ls) ≡ none
+  pub latches_no_stray : first_stray (states_of ls) (resets_of ls) ≡ None
   latches_no_stray = none_stray_lem ls (λ l i. (latches_each l i).may)
 
   pub latches_reset : AllReset (states_of ls) (resets_of ls)

@@ -6,20 +6,20 @@ use mathlib.Core.List.{List}
 use native.Mathlib.Omega.{arith}
 use lib.Dec.{leb, eqb}
 use borrow.Author.Tests.{eqb-false, ne_eqb}
-use Rattle.token.specs.Answer.{uint_at, within, assigned, header_field_at, lit_at}
+use Rattle.std.specs.Prelude.{Ok, Err}
+use Rattle.token.specs.Answer.{Token, refused, uint_at, within, assigned, header_field_at, lit_at}
+use Rattle.token.specs.declared.Number.{Number}
 use Rattle.token.specs.declared.Reason.TheVariants.{OverLimit, AssignsZero, AssignsOdd}
-use Rattle.token.specs.declared.Token.{Token}
-use Rattle.token.specs.declared.Token.TheVariants.{Value, Refused}
 use Rattle.lines.specs.Reading.{got}
 use Rattle.lines.specs.Lines.{number_of, number_at}
 use Rattle.ascii_lines.specs.Lines.{defined_at}
 
 module _ (s : List ℕ) (most at v end : ℕ) where
   -- what is read is the number itself
-  is_number : (x n : ℕ) → number_of at (within most at (Value x n)) ≡ got v end → x ≡ v
-  is_number x n e = go (leb x most) e
+  is_number : (x : Number) → number_of at (within most at (Ok x)) ≡ got v end → x.value ≡ v
+  is_number x e = go (leb x.value most) e
     where
-      go : (t : Bool) → number_of at (cond t (Value x n) (Refused OverLimit at)) ≡ got v end → x ≡ v
+      go : (t : Bool) → number_of at (cond t (Ok x) (refused OverLimit at)) ≡ got v end → x.value ≡ v
       go true f = cc
       go false f = absurd (let z : ◌≡◌ {A = ℕ} 0 1 = cc in omega arith)
 
@@ -27,26 +27,26 @@ module _ (s : List ℕ) (most at v end : ℕ) where
   unfolding defined_at lit_at number_at header_field_at
   defined_number e = go (uint_at s at) e
     where
-      by : (x n : ℕ) (zeroth odd : Bool) → eqb x 0 ≡ zeroth → eqb (x % 2) 1 ≡ odd
-          → number_of at (within most at (cond zeroth (Refused AssignsZero at) (cond odd (Refused AssignsOdd at) (Value x n)))) ≡ got v end
-          → (number_of at (within most at (Value x n)) ≡ got v end) × (1 ≤ v) × (v % 2 ≡ 0)
-      by x n true odd f g k = absurd (let z : ◌≡◌ {A = ℕ} 0 1 = cc in omega arith)
-      by x n false true f g k = absurd (let z : ◌≡◌ {A = ℕ} 0 1 = cc in omega arith)
-      by x n false false f g k =
-          let same : x ≡ v = is_number x n k in
-          (k, omega (arith, eqb-false x 0 f), omega (arith, eqb-false (x % 2) 1 g))
+      by : (x : Number) (zeroth odd : Bool) → eqb x.value 0 ≡ zeroth → eqb (x.value % 2) 1 ≡ odd
+          → number_of at (within most at (cond zeroth (refused AssignsZero at) (cond odd (refused AssignsOdd at) (Ok x)))) ≡ got v end
+          → (number_of at (within most at (Ok x)) ≡ got v end) × (1 ≤ v) × (v % 2 ≡ 0)
+      by x true odd f g k = absurd (let z : ◌≡◌ {A = ℕ} 0 1 = cc in omega arith)
+      by x false true f g k = absurd (let z : ◌≡◌ {A = ℕ} 0 1 = cc in omega arith)
+      by x false false f g k =
+          let same : x.value ≡ v = is_number x k in
+          (k, omega (arith, eqb-false x.value 0 f), omega (arith, eqb-false (x.value % 2) 1 g))
 
       go : (t : Token) → number_of at (within most at (assigned at t)) ≡ got v end
           → (number_of at (within most at t) ≡ got v end) × (1 ≤ v) × (v % 2 ≡ 0)
-      go (Value x n) f = by x n (eqb x 0) (eqb (x % 2) 1) refl refl f
-      go (Refused why place) f = absurd (let z : ◌≡◌ {A = ℕ} 0 1 = cc in omega arith)
+      go (Ok x) f = by x (eqb x.value 0) (eqb (x.value % 2) 1) refl refl f
+      go (Err r) f = absurd (let z : ◌≡◌ {A = ℕ} 0 1 = cc in omega arith)
 
   pub number_defined : number_at s most at ≡ got v end → 1 ≤ v → v % 2 ≡ 0 → defined_at s most at ≡ got v end
   unfolding defined_at lit_at number_at header_field_at
   number_defined e some even = go (uint_at s at) e
     where
       go : (t : Token) → number_of at (within most at t) ≡ got v end → number_of at (within most at (assigned at t)) ≡ got v end
-      go (Value x n) f =
-          let same : x ≡ v = is_number x n f in
-          rw (ne_eqb x 0 (omega arith), ne_eqb (x % 2) 1 (omega arith)) f
-      go (Refused why place) f = absurd (let z : ◌≡◌ {A = ℕ} 0 1 = cc in omega arith)
+      go (Ok x) f =
+          let same : x.value ≡ v = is_number x f in
+          rw (ne_eqb x.value 0 (omega arith), ne_eqb (x.value % 2) 1 (omega arith)) f
+      go (Err r) f = absurd (let z : ◌≡◌ {A = ℕ} 0 1 = cc in omega arith)

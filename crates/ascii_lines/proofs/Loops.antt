@@ -1,4 +1,4 @@
--- Lines of a section one after the other into its lists, and a section that clears them where it is refused: said once of every section. Assumes nothing.
+-- Lines of a section one after the other into its lists, and what a caller knows of these afterwards: said once of every section. Assumes nothing.
 use Prim.Native.Nat.{ℕ, suc, ◌+◌, ◌*◌, ◌≤◌, ◌<◌}
 use mathlib.Core.Path.{◌≡◌, refl, sym, ap, ◌∙◌, subst}
 use mathlib.Core.List.{List, [], ◌∷◌, ◌++◌, map}
@@ -6,18 +6,16 @@ use native.Mathlib.Numerals.{add-one}
 use native.Mathlib.Omega.{arith}
 use lib.ListN.{length, set}
 use Rattle.text.specs.Put.{put_all}
-use Rattle.text.proofs.Puts.{length_put_all, put_all_append}
+use Rattle.text.proofs.Puts.{put_all_append}
 use Rattle.circuit.specs.Graph.{Gate}
-use Rattle.circuit.specs.Outcome.{zeros}
-use Rattle.lines.specs.declared.Fault.{Fault}
-use Rattle.lines.specs.declared.Ended.{Ended}
-use Rattle.lines.specs.declared.Ended.TheVariants.{After, Broken}
+use Rattle.std.specs.Prelude.{Result, Ok, Err}
+use Rattle.lines.specs.declared.Broken.{Broken}
 use Rattle.lines.specs.Reading.{Read, got, no, row_at}
-use Rattle.lines.proofs.Rows.{Walking, walking_none, walking_more, walking_broken, walking_all, put_next}
+use Rattle.lines.proofs.Rows.{Walking, walking_more, walking_broken, walking_all, put_next}
 use Rattle.lines.proofs.Loops.{put_line_lem}
 use Rattle.ordered.specs.Expand.{gate_words}
 use Rattle.ascii_lines.specs.Lines.{Stated, stated_latch, gate_with}
-use Rattle.ascii_lines.specs.Promise.{SectionLeft, section_seen, section_left, Stores, put_numbers, no_numbers, put_gates, LatchLists, latch_lists, put_latches, no_latches}
+use Rattle.ascii_lines.specs.Promise.{SectionLeft, section_seen, section_left, Stores, put_numbers, put_gates, LatchLists, latch_lists, put_latches}
 
 -- after i lines: what was read of them is in the lists
 pub record Going {A L : Type 0} (put : List A → L → L) (thing : ℕ → ℕ → Read A) (n at : ℕ) (lists₀ lists : L) (i here : ℕ) : Type 0 where
@@ -25,23 +23,19 @@ pub record Going {A L : Type 0} (put : List A → L → L) (thing : ℕ → ℕ 
   pub walking : Walking thing n at values i here
   pub stored : lists ≡ put values lists₀
 
-pub going_none : {A L : Type 0} (put : List A → L → L) (thing : ℕ → ℕ → Read A) (n at : ℕ) (lists : L) → lists ≡ put [] lists
-    → Going put thing n at lists lists 0 at
-going_none put thing n at lists e = record { values = []; walking = walking_none thing n at; stored = e }
-
 module _ {A L : Type 0} {put : List A → L → L} {thing : ℕ → ℕ → Read A} {n at : ℕ} {lists₀ lists : L} {i here : ℕ}
     (w : Going put thing n at lists₀ lists i here) where
   pub going_more : (lists' : L) (a : A) (next : ℕ) → i < n → thing i here ≡ got a next → lists' ≡ put (w.values ++ (a ∷ [])) lists₀
       → Going put thing n at lists₀ lists' (i + 1) next
   going_more lists' a next h e f = record { values = w.values ++ (a ∷ []); walking = walking_more w.walking a next h e; stored = f }
 
-  pub going_broken : (lists' : L) (why : Fault) (place : ℕ) → i < n → thing i here ≡ no why place
-      → Stores put (row_at thing 0 n at) (Broken why place) lists₀ lists'
-  going_broken lists' why place h e =
-      subst (λ (R : Read (List A)). Stores put R (Broken why place) lists₀ lists') (sym (walking_broken w.walking why place h e)) refl
+  pub going_broken : (lists' : L) (r : Result ℕ Broken) (e : Broken) → i < n → thing i here ≡ no e.why e.place → r ≡ Err e
+      → Stores put (row_at thing 0 n at) r lists₀ lists'
+  going_broken lists' r e h f q =
+      subst (λ (R : Read (List A)). Stores put R r lists₀ lists') (sym (walking_broken w.walking e.why e.place h f)) q
 
-  pub going_all : n ≤ i → Stores put (row_at thing 0 n at) (After here) lists₀ lists
-  going_all h = subst (λ (R : Read (List A)). Stores put R (After here) lists₀ lists) (sym (walking_all w.walking h)) (refl, w.stored)
+  pub going_all : n ≤ i → Stores put (row_at thing 0 n at) (Ok here) lists₀ lists
+  going_all h = subst (λ (R : Read (List A)). Stores put R (Ok here) lists₀ lists) (sym (walking_all w.walking h)) (refl, w.stored)
 
 -- the next number, latch, or gate of three words, in its cells
 
@@ -94,56 +88,8 @@ gates_more {list₀ = list₀} {list} {i} w a b list' output first second next c
     add-two : (m : ℕ) → m + 2 ≡ suc (suc m)
     add-two m = omega arith
 
--- lists keep their lengths
-
-pub numbers_keep : {A : Type 0} (words : List A → List ℕ) {thing : ℕ → ℕ → Read A} {n at : ℕ} {list₀ list : List ℕ} {i here : ℕ}
-    → Going (λ vs l. put_numbers (words vs) l) thing n at list₀ list i here → length list ≡ length list₀
-numbers_keep words {list₀ = list₀} w = ap length w.stored ∙ length_put_all list₀ 0 (words w.values)
-
-pub record Kept (before after : LatchLists) : Type 0 where
-  pub states : length after.states ≡ length before.states
-  pub nexts : length after.nexts ≡ length before.nexts
-  pub resets : length after.resets ≡ length before.resets
-
-pub latches_keep : {thing : ℕ → ℕ → Read Stated} {n at : ℕ} {lists₀ lists : LatchLists} {i here : ℕ} → Going put_latches thing n at lists₀ lists i here
-    → Kept lists₀ lists
-latches_keep {lists₀ = lists₀} w =
-    record {
-      states = ap (λ (x : LatchLists). length x.states) w.stored ∙ length_put_all lists₀.states 0 (map (λ l. l.state) w.values);
-      nexts = ap (λ (x : LatchLists). length x.nexts) w.stored ∙ length_put_all lists₀.nexts 0 (map (λ l. l.next) w.values);
-      resets = ap (λ (x : LatchLists). length x.resets) w.stored ∙ length_put_all lists₀.resets 0 (map (λ l. l.reset) w.values);
-    }
-
--- a section that clears its lists where it is refused
-
-module _ {A L : Type 0} (put : A → L → L) (clear : L → L) (R : Read A) (r : Ended) (before mid : L) (e : Stores put R r before mid) where
-  alike : {x y : Ended} {l m : L} → x ≡ y → l ≡ m → section_seen x l ≡ section_seen y m
-  alike u v = cc
-
-  pub section_is : (next : ℕ) → r ≡ After next → section_seen (After next) mid ≡ section_left put clear R before
-  section_is next f = go R e
-    where
-      go : (Q : Read A) → Stores put Q r before mid → section_seen (After next) mid ≡ section_left put clear Q before
-      go (got a at) (u, v) = alike (sym f ∙ u) v
-      go (no why at) u = absurd (let z : ◌≡◌ {A = ℕ} 0 1 = cc in omega arith)
-
-  pub section_no : (why : Fault) (place : ℕ) (after : L) → r ≡ Broken why place → after ≡ clear before
-      → section_seen (Broken why place) after ≡ section_left put clear R before
-  section_no why place after f g = go R e
-    where
-      go : (Q : Read A) → Stores put Q r before mid → section_seen (Broken why place) after ≡ section_left put clear Q before
-      go (got a at) (u, v) = absurd (let z : ◌≡◌ {A = ℕ} 0 1 = cc in omega arith)
-      go (no w at) u = alike (sym f ∙ u) g
-
-pub latches_cleared : (R : Read (List Stated)) (r : Ended) (before mid : LatchLists) → Stores put_latches R r before mid → (why : Fault) (place : ℕ)
-    (after : LatchLists) → r ≡ Broken why place → length mid.states ≡ length before.states → length mid.nexts ≡ length before.nexts
-    → length mid.resets ≡ length before.resets → after.states ≡ no_numbers mid.states → after.nexts ≡ no_numbers mid.nexts
-    → after.resets ≡ no_numbers mid.resets → section_seen (Broken why place) after ≡ section_left put_latches no_latches R before
-latches_cleared R r before mid e why place after f a b c x y z =
-    section_no put_latches no_latches R r before mid e why place after f (three (x ∙ ap zeros a) (y ∙ ap zeros b) (z ∙ ap zeros c))
-
--- and back: what a caller knows of a section's lists
-section_stores : {A L : Type 0} (put : A → L → L) (clear : L → L) (R : Read A) (r : Ended) (before after : L)
+-- what a caller knows of a section's lists
+section_stores : {A L : Type 0} (put : A → L → L) (clear : L → L) (R : Read A) (r : Result ℕ Broken) (before after : L)
     → section_seen r after ≡ section_left put clear R before → Stores put R r before after
 section_stores {L = L} put clear (got a at) r before after e = (ap (λ (o : SectionLeft L). o.answer) e, ap (λ (o : SectionLeft L). o.lists) e)
 section_stores {L = L} put clear (no why place) r before after e = ap (λ (o : SectionLeft L). o.answer) e
@@ -153,18 +99,20 @@ pub record StoredIn {A L : Type 0} (put : A → L → L) (R : Read A) (at : ℕ)
   pub read : R ≡ got values at
   pub stored : after ≡ put values before
 
-pub section_stored : {A L : Type 0} (put : A → L → L) (clear : L → L) (R : Read A) (r : Ended) (before after : L)
-    → section_seen r after ≡ section_left put clear R before → (at : ℕ) → r ≡ After at → StoredIn put R at before after
+pub section_stored : {A L : Type 0} (put : A → L → L) (clear : L → L) (R : Read A) (r : Result ℕ Broken) (before after : L)
+    → section_seen r after ≡ section_left put clear R before → (at : ℕ) → r ≡ Ok at → StoredIn put R at before after
 section_stored {A} {L} put clear R r before after e at f = go R (section_stores put clear R r before after e)
   where
     go : (Q : Read A) → Stores put Q r before after → StoredIn put Q at before after
     go (got a p) (u, v) = let h : p ≡ at = cc in record { values = a; read = ap (got a) h; stored = v }
     go (no why p) u = absurd (let z : ◌≡◌ {A = ℕ} 0 1 = cc in omega arith)
 
-pub section_refused : {A L : Type 0} (put : A → L → L) (clear : L → L) (R : Read A) (r : Ended) (before after : L)
-    → section_seen r after ≡ section_left put clear R before → (why : Fault) (place : ℕ) → r ≡ Broken why place → R ≡ no why place
-section_refused {A} {L} put clear R r before after e why place f = go R (section_stores put clear R r before after e)
+pub section_refused : {A L : Type 0} (put : A → L → L) (clear : L → L) (R : Read A) (r : Result ℕ Broken) (before after : L)
+    → section_seen r after ≡ section_left put clear R before → (b : Broken) → r ≡ Err b → R ≡ no b.why b.place
+section_refused {A} {L} put clear R r before after e b f = go R (section_stores put clear R r before after e)
   where
-    go : (Q : Read A) → Stores put Q r before after → Q ≡ no why place
+    go : (Q : Read A) → Stores put Q r before after → Q ≡ no b.why b.place
     go (got a p) (u, v) = absurd (let z : ◌≡◌ {A = ℕ} 0 1 = cc in omega arith)
-    go (no w p) u = let a : w ≡ why = cc in let b : p ≡ place = cc in ap (λ (x : Fault). no x p) a ∙ ap (no why) b
+    go (no w p) u =
+        let same : ◌≡◌ {A = Broken} (record { why = w; place = p }) b = cc in
+        ap (λ (x : Broken). no x.why x.place) same

@@ -1,19 +1,18 @@
 -- Lines of the text form by example: each the smallest on which a neighbouring definition answers otherwise, so the order in which a line is refused is
 -- seen. The bytes are written above each as text; they begin with an x, and the place asked for is 1. By computation. Assumes nothing.
 use Prim.Native.Nat.{ℕ}
+use Rattle.std.specs.Prelude.{Result, Ok}
 use mathlib.Core.Path.{◌≡◌, refl}
 use mathlib.Core.List.{List, [], ◌∷◌}
 use Rattle.token.specs.Format.{digits_of}
 use Rattle.token.specs.Answer.{digits_at, uint_at, header_field_at, lit_at}
 use Rattle.token.specs.declared.Reason.TheVariants.{NoDigit, LeadingZero, OverWidth, OverLimit, AssignsZero, AssignsOdd}
 use Rattle.lines.specs.declared.Fault.TheVariants.{Number, Missing, Above, Reset}
-use Rattle.lines.specs.declared.Ended.{Ended}
-use Rattle.lines.specs.declared.Ended.TheVariants.{After, Broken}
+use Rattle.lines.specs.declared.Broken.{Broken}
 use Rattle.lines.specs.Reading.{got, no}
 use Rattle.lines.specs.Lines.{is_byte, byte_at, number_at, reset_line_at, reset_at, latch_at}
 use Rattle.lines.specs.Sections.{count_at}
-use Rattle.ascii_lines.specs.declared.StatedRead.TheVariants as S
-use Rattle.ascii_lines.specs.declared.GateRead.TheVariants as G
+use Rattle.lines.specs.Promise.{broken}
 use Rattle.ascii_lines.specs.Lines.{defined_at, input_at, inputs_at, stated_latch, states_of, nexts_of, resets_of, stated_at, latches_at}
 use Rattle.ascii_lines.specs.Lines.{gate_with, input_pair_at, gate_at, gates_at}
 use Rattle.ascii_lines.specs.Promise.{stated_read, gate_read, section_seen, section_left, Stores, put_numbers, no_numbers, put_gates}
@@ -170,32 +169,32 @@ pub answers_pinned :
     × (nexts_of (stated_latch 5 6 7 ∷ stated_latch 15 16 17 ∷ []) ≡ (6 ∷ 16 ∷ []))
     × (resets_of (stated_latch 5 6 7 ∷ stated_latch 15 16 17 ∷ []) ≡ (7 ∷ 17 ∷ []))
     × (gate_with 5 6 7 ≡ record { output = 5; first = 6; second = 7 })
-    × (stated_read (got (stated_latch 5 6 7) 9) ≡ S.Stated 5 6 7 9)
-    × (stated_read (no Above 9) ≡ S.NotStated Above 9)
-    × (gate_read (got (gate_with 5 6 7) 9) ≡ G.Defined 5 6 7 9)
-    × (gate_read (no Above 9) ≡ G.NotDefined Above 9)
+    × (stated_read (got (stated_latch 5 6 7) 9) ≡ Ok (record { state = 5; next = 6; reset = 7; after = 9 }))
+    × (stated_read (no Above 9) ≡ broken Above 9)
+    × (gate_read (got (gate_with 5 6 7) 9) ≡ Ok (record { output = 5; first = 6; second = 7; after = 9 }))
+    × (gate_read (no Above 9) ≡ broken Above 9)
     × (latch_lists (1 ∷ []) (2 ∷ []) (3 ∷ []) ≡ record { states = (1 ∷ []); nexts = (2 ∷ []); resets = (3 ∷ []) })
-    × (section_seen {L = List ℕ} (After 7) (1 ∷ []) ≡ record { answer = After 7; lists = (1 ∷ []) })
+    × (section_seen {L = List ℕ} (Ok 7) (1 ∷ []) ≡ record { answer = Ok 7; lists = (1 ∷ []) })
     -- into a longer list, whose other words stay, and into a shorter one; all 0 where a line is refused
-    × (section_left put_numbers no_numbers (got (5 ∷ 6 ∷ []) 7) (9 ∷ 8 ∷ 4 ∷ []) ≡ section_seen (After 7) (5 ∷ 6 ∷ 4 ∷ []))
-    × (section_left put_numbers no_numbers (got (5 ∷ 6 ∷ []) 7) (9 ∷ []) ≡ section_seen (After 7) (5 ∷ []))
-    × (section_left put_numbers no_numbers (no Above 2) (9 ∷ 8 ∷ 4 ∷ []) ≡ section_seen (Broken Above 2) (0 ∷ 0 ∷ 0 ∷ []))
+    × (section_left put_numbers no_numbers (got (5 ∷ 6 ∷ []) 7) (9 ∷ 8 ∷ 4 ∷ []) ≡ section_seen (Ok 7) (5 ∷ 6 ∷ 4 ∷ []))
+    × (section_left put_numbers no_numbers (got (5 ∷ 6 ∷ []) 7) (9 ∷ []) ≡ section_seen (Ok 7) (5 ∷ []))
+    × (section_left put_numbers no_numbers (no Above 2) (9 ∷ 8 ∷ 4 ∷ []) ≡ section_seen (broken Above 2) (0 ∷ 0 ∷ 0 ∷ []))
     -- three words a gate
-    × (section_left put_gates no_numbers (got (gate_with 6 4 2 ∷ []) 7) (9 ∷ 8 ∷ 5 ∷ 3 ∷ []) ≡ section_seen (After 7) (6 ∷ 4 ∷ 2 ∷ 3 ∷ []))
-    × (section_left put_gates no_numbers (got (gate_with 6 4 2 ∷ gate_with 10 11 12 ∷ []) 7) (9 ∷ 8 ∷ 5 ∷ 3 ∷ 1 ∷ []) ≡ section_seen (After 7)
+    × (section_left put_gates no_numbers (got (gate_with 6 4 2 ∷ []) 7) (9 ∷ 8 ∷ 5 ∷ 3 ∷ []) ≡ section_seen (Ok 7) (6 ∷ 4 ∷ 2 ∷ 3 ∷ []))
+    × (section_left put_gates no_numbers (got (gate_with 6 4 2 ∷ gate_with 10 11 12 ∷ []) 7) (9 ∷ 8 ∷ 5 ∷ 3 ∷ 1 ∷ []) ≡ section_seen (Ok 7)
     (6 ∷ 4 ∷ 2 ∷ 10 ∷ 11 ∷ []))
     -- each of a latch's three in its list
     × (section_left put_latches no_latches (got (stated_latch 5 15 25 ∷ stated_latch 6 16 26 ∷ []) 7)
     (latch_lists (9 ∷ 8 ∷ 7 ∷ []) (19 ∷ []) (29 ∷ 28 ∷ 27 ∷ 20 ∷ []))
-    ≡ section_seen (After 7) (latch_lists (5 ∷ 6 ∷ 7 ∷ []) (15 ∷ []) (25 ∷ 26 ∷ 27 ∷ 20 ∷ [])))
+    ≡ section_seen (Ok 7) (latch_lists (5 ∷ 6 ∷ 7 ∷ []) (15 ∷ []) (25 ∷ 26 ∷ 27 ∷ 20 ∷ [])))
     × (section_left put_latches no_latches (no Above 2) (latch_lists (9 ∷ []) (19 ∷ 18 ∷ []) (29 ∷ 28 ∷ 27 ∷ []))
-    ≡ section_seen (Broken Above 2) (latch_lists (0 ∷ []) (0 ∷ 0 ∷ []) (0 ∷ 0 ∷ 0 ∷ [])))
+    ≡ section_seen (broken Above 2) (latch_lists (0 ∷ []) (0 ∷ 0 ∷ []) (0 ∷ 0 ∷ 0 ∷ [])))
 answers_pinned = (refl, refl, refl, refl, refl, refl, refl, refl, refl, refl, refl, refl, refl, refl, refl, refl, refl, refl)
 
 -- what is read is put into the list; of a refusal only the answer is told
-pub stores_pinned : (e : Ended) (list : List ℕ) (lists : LatchLists)
-    → (◌≡◌ {A = Type 0} (Stores put_numbers (got (5 ∷ 6 ∷ []) 7) e (9 ∷ 8 ∷ 4 ∷ []) list) ((e ≡ After 7) × (list ≡ (5 ∷ 6 ∷ 4 ∷ []))))
-    × (◌≡◌ {A = Type 0} (Stores put_numbers (no Above 7) e (9 ∷ 8 ∷ 4 ∷ []) list) (e ≡ Broken Above 7))
+pub stores_pinned : (e : Result ℕ Broken) (list : List ℕ) (lists : LatchLists)
+    → (◌≡◌ {A = Type 0} (Stores put_numbers (got (5 ∷ 6 ∷ []) 7) e (9 ∷ 8 ∷ 4 ∷ []) list) ((e ≡ Ok 7) × (list ≡ (5 ∷ 6 ∷ 4 ∷ []))))
+    × (◌≡◌ {A = Type 0} (Stores put_numbers (no Above 7) e (9 ∷ 8 ∷ 4 ∷ []) list) (e ≡ broken Above 7))
     × (◌≡◌ {A = Type 0} (Stores put_latches (got (stated_latch 5 15 25 ∷ []) 7) e (latch_lists (9 ∷ []) (19 ∷ []) (29 ∷ [])) lists)
-    ((e ≡ After 7) × (lists ≡ latch_lists (5 ∷ []) (15 ∷ []) (25 ∷ []))))
+    ((e ≡ Ok 7) × (lists ≡ latch_lists (5 ∷ []) (15 ∷ []) (25 ∷ []))))
 stores_pinned e list lists = (refl, refl, refl)

@@ -1,45 +1,47 @@
 -- The words of the contracts: a code's answer for what is read, and what a section leaves of its lent lists. Assumes nothing.
-use Rattle.std.specs.Prelude.{ℕ, ◌≡◌, List, length}
+use Rattle.std.specs.Prelude.{ℕ, ◌≡◌, List, length, Result, Ok}
 use Rattle.text.specs.Put.{put_all}
 use Rattle.circuit.specs.Graph.{Gate}
 use Rattle.circuit.specs.Outcome.{zeros}
-use Rattle.lines.specs.declared.Ended.{Ended}
-use Rattle.lines.specs.declared.Ended.TheVariants.{After, Broken}
+use Rattle.lines.specs.declared.Broken.{Broken}
 use Rattle.lines.specs.Reading.{Read, got, no}
+use Rattle.lines.specs.Promise.{broken, answered}
 use Rattle.ordered.specs.Expand.{gate_words}
 use Rattle.ascii_lines.specs.declared.StatedRead.{StatedRead}
-use Rattle.ascii_lines.specs.declared.StatedRead.TheVariants as S
 use Rattle.ascii_lines.specs.declared.GateRead.{GateRead}
-use Rattle.ascii_lines.specs.declared.GateRead.TheVariants as G
 use Rattle.ascii_lines.specs.Lines.{Stated, states_of, nexts_of, resets_of}
 
 -- a latch's line that is read
-abbrev pub stated_read : Read Stated → StatedRead
-stated_read (got l at) = S.Stated l.state l.next l.reset at
-stated_read (no why place) = S.NotStated why place
+abbrev pub stated_read_of : Stated → ℕ → StatedRead
+stated_read_of l at = record { state = l.state; next = l.next; reset = l.reset; after = at }
+
+abbrev pub stated_read : Read Stated → Result StatedRead Broken
+stated_read = answered stated_read_of
 
 -- a gate's line that is read
-abbrev pub gate_read : Read Gate → GateRead
-gate_read (got g at) = G.Defined g.output g.first g.second at
-gate_read (no why place) = G.NotDefined why place
+abbrev pub gate_read_of : Gate → ℕ → GateRead
+gate_read_of g at = record { output = g.output; first = g.first; second = g.second; after = at }
+
+abbrev pub gate_read : Read Gate → Result GateRead Broken
+gate_read = answered gate_read_of
 
 -- what a section leaves: its answer, and its lent lists
 pub record SectionLeft (L : Type 0) : Type 0 where
-  pub answer : Ended
+  pub answer : Result ℕ Broken
   pub lists : L
 
-abbrev pub section_seen : {L : Type 0} → Ended → L → SectionLeft L
+abbrev pub section_seen : {L : Type 0} → Result ℕ Broken → L → SectionLeft L
 section_seen answer lists = record { answer = answer; lists = lists }
 
 -- what is read is put into the lists; where it is refused they are cleared
 abbrev pub section_left : {A L : Type 0} → (A → L → L) → (L → L) → Read A → L → SectionLeft L
-section_left put clear (got a at) l = section_seen (After at) (put a l)
-section_left put clear (no why place) l = section_seen (Broken why place) (clear l)
+section_left put clear (got a at) l = section_seen (Ok at) (put a l)
+section_left put clear (no why place) l = section_seen (broken why place) (clear l)
 
 -- inside, where a refusal says nothing of the lists yet
-abbrev pub Stores : {A L : Type 0} → (A → L → L) → Read A → Ended → L → L → Type 0
-Stores put (got a at) r before after = (r ≡ After at) × (after ≡ put a before)
-Stores put (no why place) r before after = r ≡ Broken why place
+abbrev pub Stores : {A L : Type 0} → (A → L → L) → Read A → Result ℕ Broken → L → L → Type 0
+Stores put (got a at) r before after = (r ≡ Ok at) × (after ≡ put a before)
+Stores put (no why place) r before after = r ≡ broken why place
 
 -- numbers onto the front of a list, as far as there is room; and every cell 0
 abbrev pub put_numbers : List ℕ → List ℕ → List ℕ

@@ -9,138 +9,89 @@ ghost use Rattle.ascii_lines.specs.Lines.{defined_at, input_at, inputs_at, state
 ghost use Rattle.ascii_lines.specs.Promise.{stated_read, gate_read, section_seen, section_left, Stores, put_numbers, no_numbers, put_latches, no_latches, put_gates};
 
 use lent::words::{fill, store};
-use lines::{Ended, Fault, LatchRead, Reading};
-use token::Token;
+use lines::{Broken, Reading};
 
-// A latch's state, next state and reset and the place after its line, or why it is refused and where.
+// A latch's state, next state and reset, and the place after its line.
 #[derive(Clone, Copy)]
-pub enum StatedRead {
-    Stated {
-        state: u32,
-        next: u32,
-        reset: u32,
-        after: usize,
-    },
-    NotStated {
-        why: Fault,
-        place: usize,
-    },
+pub struct StatedRead {
+    pub state: u32,
+    pub next: u32,
+    pub reset: u32,
+    pub after: usize,
 }
 
-// A gate's output and inputs and the place after its line, or why it is refused and where.
+// A gate's output and inputs, and the place after its line.
 #[derive(Clone, Copy)]
-pub enum GateRead {
-    Defined {
-        output: u32,
-        first: u32,
-        second: u32,
-        after: usize,
-    },
-    NotDefined {
-        why: Fault,
-        place: usize,
-    },
+pub struct GateRead {
+    pub output: u32,
+    pub first: u32,
+    pub second: u32,
+    pub after: usize,
 }
 
 // A literal that a line defines: 13 for 0, 14 for an odd one, and then 12 over the limit.
-fn defined(s: &[u8], at: usize, limit: u32) -> Reading
+#[tactic(auto, unfolding(crate::specs::Lines::defined_at))]
+fn defined(s: &[u8], at: usize, limit: u32) -> Result<Reading, Broken>
     ensures { result ≡ reading (defined_at s.now limit at) }
 {
-    let token = token::lit(s, at, limit as u64, true);
-    match token {
-        Token::Value { value, used } => Reading::Is {
-            value: value as u32,
-            after: at + used,
-        },
-        Token::Refused { why, place } => Reading::Not {
-            why: Fault::Number(why),
-            place,
-        },
-    }
+    let number = token::lit(s, at, limit as u64, true)?;
+    Ok(Reading {
+        value: number.value as u32,
+        after: at + number.used,
+    })
 }
 
 // An input's line.
-fn input(s: &[u8], at: usize, limit: u32) -> Reading
+#[tactic(auto, unfolding(crate::specs::Lines::input_at))]
+fn input(s: &[u8], at: usize, limit: u32) -> Result<Reading, Broken>
     ensures { result ≡ reading (input_at s.now limit at) }
 {
-    let number = defined(s, at, limit);
-    match number {
-        Reading::Is { value, after } => {
-            let end = lines::byte(s, after, b'\n');
-            match end {
-                Ended::After(next) => Reading::Is { value, after: next },
-                Ended::Broken { why, place } => Reading::Not { why, place },
-            }
-        }
-        Reading::Not { why, place } => Reading::Not { why, place },
-    }
+    let number = defined(s, at, limit)?;
+    let after = lines::byte(s, number.after, b'\n')?;
+    Ok(Reading {
+        value: number.value,
+        after,
+    })
 }
 
 // Input lines, n of them, into a list, as far as there is room.
-fn inputs_into(s: &[u8], at: usize, limit: u32, n: usize, list: &mut [u32]) -> Ended
+fn inputs_into(s: &[u8], at: usize, limit: u32, n: usize, list: &mut [u32]) -> Result<usize, Broken>
     ensures { Stores put_numbers (inputs_at s.now limit n at) result list.old list.new }
 {
-    let mut i: usize = 0;
     let mut here = at;
-    while i < n {
-        let line = input(s, here, limit);
-        match line {
-            Reading::Is { value, after } => {
-                store(list, i, value);
-                here = after;
-                i += 1;
-            }
-            Reading::Not { why, place } => {
-                return Ended::Broken { why, place };
-            }
-        }
+    for i in 0..n {
+        let line = input(s, here, limit)?;
+        store(list, i, line.value);
+        here = line.after;
     }
-    Ended::After(here)
+    Ok(here)
 }
 
 // Input lines, n of them, into a list, as far as there is room, whose other cells stay. A refusal leaves every cell 0.
-pub fn inputs(s: &[u8], at: usize, limit: u32, n: usize, list: &mut [u32]) -> Ended
+pub fn inputs(s: &[u8], at: usize, limit: u32, n: usize, list: &mut [u32]) -> Result<usize, Broken>
     ensures { section_seen result list.new ≡ section_left put_numbers no_numbers (inputs_at s.now limit n at) list.old }
 {
     let end = inputs_into(s, at, limit, n, list);
-    match end {
-        Ended::After(next) => Ended::After(next),
-        Ended::Broken { why, place } => {
-            fill(list, 0);
-            Ended::Broken { why, place }
-        }
+    if end.is_err() {
+        fill(list, 0);
     }
+    end
 }
 
 // A latch's line: its state, a space, and the rest as in the other form, where the state is the latch's literal.
-fn stated(s: &[u8], at: usize, limit: u32) -> StatedRead
+#[tactic(auto, unfolding(crate::specs::Lines::stated_at))]
+fn stated(s: &[u8], at: usize, limit: u32) -> Result<StatedRead, Broken>
     ensures { result ≡ stated_read (stated_at s.now limit at) }
 {
-    let number = defined(s, at, limit);
-    match number {
-        Reading::Is {
-            value: state,
-            after: space,
-        } => {
-            let gap = lines::byte(s, space, b' ');
-            match gap {
-                Ended::After(rest) => {
-                    let line = lines::latch(s, rest, limit, state);
-                    match line {
-                        LatchRead::Latch { next, reset, after } => StatedRead::Stated {
-                            state,
-                            next,
-                            reset,
-                            after,
-                        },
-                        LatchRead::NoLatch { why, place } => StatedRead::NotStated { why, place },
-                    }
-                }
-                Ended::Broken { why, place } => StatedRead::NotStated { why, place },
-            }
-        }
-        Reading::Not { why, place } => StatedRead::NotStated { why, place },
-    }
+    let state = defined(s, at, limit)?;
+    let rest = lines::byte(s, state.after, b' ')?;
+    let line = lines::latch(s, rest, limit, state.value)?;
+    Ok(StatedRead {
+        state: state.value,
+        next: line.next,
+        reset: line.reset,
+        after: line.after,
+    })
 }
 
 // Latch lines, n of them, into three lists, as far as there is room.
@@ -152,7 +103,7 @@ fn latches_into(
     states: &mut [u32],
     nexts: &mut [u32],
     resets: &mut [u32],
-) -> Ended
+) -> Result<usize, Broken>
     ensures { Stores put_latches (latches_at s.now limit n at) result (record {
       states = states.old;
       nexts = nexts.old;
@@ -163,29 +114,15 @@ fn latches_into(
       resets = resets.new;
     }) }
 {
-    let mut i: usize = 0;
     let mut here = at;
-    while i < n {
-        let line = stated(s, here, limit);
-        match line {
-            StatedRead::Stated {
-                state,
-                next,
-                reset,
-                after,
-            } => {
-                store(states, i, state);
-                store(nexts, i, next);
-                store(resets, i, reset);
-                here = after;
-                i += 1;
-            }
-            StatedRead::NotStated { why, place } => {
-                return Ended::Broken { why, place };
-            }
-        }
+    for i in 0..n {
+        let line = stated(s, here, limit)?;
+        store(states, i, line.state);
+        store(nexts, i, line.next);
+        store(resets, i, line.reset);
+        here = line.after;
     }
-    Ended::After(here)
+    Ok(here)
 }
 
 // Latch lines, n of them: states, next states and resets go into their lists, as far as there is room, and other cells stay. A refusal leaves every cell
@@ -198,7 +135,7 @@ pub fn latches(
     states: &mut [u32],
     nexts: &mut [u32],
     resets: &mut [u32],
-) -> Ended
+) -> Result<usize, Broken>
     ensures { section_seen result (record {
       states = states.new;
       nexts = nexts.new;
@@ -210,106 +147,63 @@ pub fn latches(
     }) }
 {
     let end = latches_into(s, at, limit, n, states, nexts, resets);
-    match end {
-        Ended::After(next) => Ended::After(next),
-        Ended::Broken { why, place } => {
-            fill(states, 0);
-            fill(nexts, 0);
-            fill(resets, 0);
-            Ended::Broken { why, place }
-        }
+    if end.is_err() {
+        fill(states, 0);
+        fill(nexts, 0);
+        fill(resets, 0);
     }
+    end
 }
 
 // The rest of a gate's line, behind its output: its two inputs, a space before each, and the newline.
-fn input_pair(s: &[u8], at: usize, limit: u32, output: u32) -> GateRead
+#[tactic(auto, unfolding(crate::specs::Lines::input_pair_at))]
+fn input_pair(s: &[u8], at: usize, limit: u32, output: u32) -> Result<GateRead, Broken>
     ensures { result ≡ gate_read (input_pair_at s.now limit output at) }
 {
-    let one = lines::count(s, at, limit);
-    match one {
-        Reading::Is {
-            value: first,
-            after: space,
-        } => {
-            let two = lines::count(s, space, limit);
-            match two {
-                Reading::Is {
-                    value: second,
-                    after: newline,
-                } => {
-                    let end = lines::byte(s, newline, b'\n');
-                    match end {
-                        Ended::After(after) => GateRead::Defined {
-                            output,
-                            first,
-                            second,
-                            after,
-                        },
-                        Ended::Broken { why, place } => GateRead::NotDefined { why, place },
-                    }
-                }
-                Reading::Not { why, place } => GateRead::NotDefined { why, place },
-            }
-        }
-        Reading::Not { why, place } => GateRead::NotDefined { why, place },
-    }
+    let first = lines::count(s, at, limit)?;
+    let second = lines::count(s, first.after, limit)?;
+    let after = lines::byte(s, second.after, b'\n')?;
+    Ok(GateRead {
+        output,
+        first: first.value,
+        second: second.value,
+        after,
+    })
 }
 
 // A gate's line: its output, which it defines, and its two inputs.
-fn gate(s: &[u8], at: usize, limit: u32) -> GateRead
+#[tactic(auto, unfolding(crate::specs::Lines::gate_at))]
+fn gate(s: &[u8], at: usize, limit: u32) -> Result<GateRead, Broken>
     ensures { result ≡ gate_read (gate_at s.now limit at) }
 {
-    let number = defined(s, at, limit);
-    match number {
-        Reading::Is {
-            value: output,
-            after,
-        } => input_pair(s, after, limit, output),
-        Reading::Not { why, place } => GateRead::NotDefined { why, place },
-    }
+    let output = defined(s, at, limit)?;
+    input_pair(s, output.after, limit, output.value)
 }
 
 // Gate lines, m of them, three words each into a list that can count so many, as far as there is room.
-fn gates_into(s: &[u8], at: usize, limit: u32, m: u32, list: &mut [u32]) -> Ended
+fn gates_into(s: &[u8], at: usize, limit: u32, m: u32, list: &mut [u32]) -> Result<usize, Broken>
     ensures { Stores put_gates (gates_at s.now limit m at) result list.old list.new }
 {
-    let mut j: u32 = 0;
     let mut cell: usize = 0;
     let mut here = at;
-    while j < m {
-        let line = gate(s, here, limit);
-        match line {
-            GateRead::Defined {
-                output,
-                first,
-                second,
-                after,
-            } => {
-                store(list, cell, output);
-                store(list, cell + 1, first);
-                store(list, cell + 2, second);
-                here = after;
-                cell += 3;
-                j += 1;
-            }
-            GateRead::NotDefined { why, place } => {
-                return Ended::Broken { why, place };
-            }
-        }
+    for j in 0..m {
+        let line = gate(s, here, limit)?;
+        store(list, cell, line.output);
+        store(list, cell + 1, line.first);
+        store(list, cell + 2, line.second);
+        cell += 3;
+        here = line.after;
     }
-    Ended::After(here)
+    Ok(here)
 }
 
 // Gate lines, m of them, three words each into a list, as far as there is room, whose other cells stay. A refusal leaves every cell 0.
-pub fn gates(s: &[u8], at: usize, limit: u32, m: u32, list: &mut [u32]) -> Ended
+pub fn gates(s: &[u8], at: usize, limit: u32, m: u32, list: &mut [u32]) -> Result<usize, Broken>
     ensures { section_seen result list.new ≡ section_left put_gates no_numbers (gates_at s.now limit m at) list.old }
 {
     let end = gates_into(s, at, limit, m, list);
-    match end {
-        Ended::After(next) => Ended::After(next),
-        Ended::Broken { why, place } => {
-            fill(list, 0);
-            Ended::Broken { why, place }
-        }
+    if end.is_err() {
+        fill(list, 0);
     }
+    end
 }

@@ -8,6 +8,6 @@ use Rattle.beginning.proofs.prepare.Kinds as prepare-kinds
 use Rattle.beginning.proofs.prepare.Reads as prepare-contract
 
 pub one_prepare :
-    DeterminesCells 6 prepare-kinds.ps prepare-kinds.r prepare-contract.Learnt {A = List ℕ × List ℕ × List ℕ}
-    (λ κs e. (e.1.1.1.1.0.now, e.1.1.1.1.1.0.now, e.1.1.1.1.1.1.0.now))
+    DeterminesCells 5 prepare-kinds.ps prepare-kinds.r prepare-contract.Learnt {A = List ℕ × List ℕ × List ℕ}
+    (λ κs e. (e.1.1.0.now, e.1.1.1.0.now, e.1.1.1.1.0.now))
 one_prepare κs a x y e f p q = (ap (λ (o : Ready). o.said) (p ∙ sym q), ap (λ (o : Ready). (o.map, o.out, o.scratch)) (p ∙ sym q))

@@ -1,9 +1,8 @@
 -- What stands in the lent lists when the walks begin, whatever is lent. Assumes nothing.
-use Rattle.std.specs.Prelude.{ℕ, ◌+◌, ◌*◌, ◌/◌, cond, ◌||◌, List, ◌++◌, ltb, length, take, drop}
+use Rattle.std.specs.Prelude.{ℕ, ◌+◌, ◌*◌, ◌/◌, cond, ◌||◌, List, ◌++◌, ltb, length, take, drop, Err}
 use Rattle.circuit.specs.declared.Refusal.TheVariants.{Short}
 use Rattle.circuit.specs.Outcome.{gates_of, zeros, onto}
-use Rattle.checks.specs.declared.Check.{Check}
-use Rattle.checks.specs.declared.Check.TheVariants.{Failed}
+use Rattle.checks.specs.Checks.{Check}
 use Rattle.images.specs.Begin.{begun}
 use Rattle.defs.specs.Define.{Judged, define_all}
 
@@ -30,5 +29,5 @@ with_table n J inputs states gates map out scratch =
 -- the whole, where the largest variable is `top`
 unfoldable pub prepared : ℕ → List ℕ → List ℕ → List ℕ → List ℕ → List ℕ → List ℕ → Ready
 prepared top inputs states gates map out scratch =
-    cond (ltb (length map) (top + 1) || ltb (length scratch) (top + 1)) (ready_of (Failed Short) map out scratch)
+    cond (ltb (length map) (top + 1) || ltb (length scratch) (top + 1)) (ready_of (Err Short) map out scratch)
     (with_table (top + 1) (define_all (take (top + 1) (cleaned (top + 1) gates scratch)) inputs states (gates_of gates)) inputs states gates map out scratch)

@@ -5,7 +5,7 @@ use mathlib.Core.Path.{◌≡◌, sym, ap, ◌∙◌, subst}
 use mathlib.Core.List.{List, ◌++◌}
 use lib.ListN.{length, get_or}
 use Rattle.circuit.specs.declared.Summary.{Summary}
-use Rattle.circuit.specs.declared.Answer.TheVariants.{Renumbered}
+use Rattle.std.specs.Prelude.{Ok}
 use Rattle.circuit.specs.Outcome.{Lent, circuit_of, limit, total, held, outcome}
 use Rattle.circuit.specs.Demands.{AfterSuccess}
 use Rattle.circuit.proofs.Demands.{demands}
@@ -21,7 +21,7 @@ use Rattle.binary.proofs.Written.{reads_back_lem}
 pub reads_only : (room : Room) (f : File) → Sound f → Holds room f → (after : List ℕ) (g : File) (n : ℕ) → read_file (file_of f ++ after) room ≡ got g n → g ≡ f
 reads_only room f k fits after g n e = got_same (sym e ∙ reads_back_lem f k room fits after)
 
-module _ (l : Lent) (s : Summary) (renumbered : (outcome l).answer ≡ Renumbered s) (sizes : List ℕ) (five : length (circuit_of l).counts ≡ 5)
+module _ (l : Lent) (s : Summary) (renumbered : (outcome l).answer ≡ Ok s) (sizes : List ℕ) (five : length (circuit_of l).counts ≡ 5)
     (sums : total sizes ≡ get_or (circuit_of l).counts 4 0) (few : length sizes ≤ limit) where
   pub result_sound : Sound (result_with l s sizes)
   unfolding held

@@ -12,11 +12,11 @@ use Rattle.circuit.specs.Outcome.{onto}
 use Rattle.circuit.proofs.Outcome.{onto-take}
 use Rattle.lines.specs.Reading.{Read, got}
 use Rattle.ordered.specs.declared.given.Fault.TheVariants.{Short}
-use Rattle.binary.specs.declared.FileWritten.TheVariants.{Written, Unwritten}
+use Rattle.std.specs.Prelude.{Ok}
 use Rattle.binary.specs.File.{File, Room, read_file}
-use Rattle.binary.specs.Promise.{room_of, left, outcome}
+use Rattle.binary.specs.Promise.{room_of, numbers, left, outcome}
 use Rattle.binary.specs.Sound.{Sound, Holds, result_with}
-use Rattle.binary.specs.Write.{file_of, Writing, wrote}
+use Rattle.binary.specs.Write.{file_of, unwritten, Writing, wrote}
 use Rattle.binary.specs.Way as W
 use Rattle.binary.specs.Way.{Lending, handed_from, Enough, Arrives, End}
 use Rattle.binary.specs.Archive.{archiving, FitsOrShort, fits, short, ReadsBack, Stored, Archived, refused, archived}
@@ -30,7 +30,7 @@ module _ (f : File) (sound : Sound f) where
   only_short out = subst⁻¹ (λ (w : Writing). FitsOrShort f w.answer) (sound_written f sound out) (go (ltb (length out) (length (file_of f))))
     where
       go : (b : Bool)
-          → FitsOrShort f (cond b (wrote (Unwritten Short (length (file_of f))) out) (wrote (Written (length (file_of f))) (onto (file_of f) out))).answer
+          → FitsOrShort f (cond b (wrote (unwritten Short (length (file_of f))) out) (wrote (Ok (length (file_of f))) (onto (file_of f) out))).answer
       go true = short
       go false = fits
 
@@ -39,7 +39,7 @@ module _ (f : File) (sound : Sound f) where
     where
       back : length (file_of f) ≤ length out → ReadsBack f out room
       back enough =
-          let all : archiving f out ≡ wrote (Written (length (file_of f))) (onto (file_of f) out)
+          let all : archiving f out ≡ wrote (Ok (length (file_of f))) (onto (file_of f) out)
           = sound_written f sound out ∙ rw (le-ltb (length out) (length (file_of f)) enough) in
           let bytes : take (length (file_of f)) (archiving f out).bytes ≡ file_of f
           = ap (λ (w : Writing). take (length (file_of f)) w.bytes) all ∙ onto-take (file_of f) out (length (file_of f)) refl enough in
@@ -53,7 +53,7 @@ module _ (f : File) (sound : Sound f) where
 
 -- from file to file
 
-pub file_to_file : (bytes : List ℕ) (g : Lending) → Enough (outcome bytes g.file).read g → (out : List ℕ) → Archived bytes g out
+pub file_to_file : (bytes : List ℕ) (g : Lending) → Enough (numbers (outcome bytes g.file).read) g → (out : List ℕ) → Archived bytes g out
 file_to_file bytes g enough out = go (two_ends bytes g enough)
   where
     go : End bytes g → Archived bytes g out
@@ -70,7 +70,7 @@ file_to_file bytes g enough out = go (two_ends bytes g enough)
         sound = read_sound bytes (room_of g.file) f used e
 
         counts : (handed_from bytes g).circuit.counts ≡ f.ordered.counts
-        counts = ap (λ (r : Read File). (left r g.file).read.counts) e
+        counts = ap (λ (r : Read File). (numbers (left r g.file).read).counts) e
 
         its : Sound (result_with (handed_from bytes g) a.summary f.sizes)
         its =

@@ -16,8 +16,8 @@ use Rattle.ordered.specs.WellOrdered.{variables_of}
 use Rattle.ordered.specs.Check.{Words, circuit_in}
 use Rattle.ordered.specs.Given.{Given}
 use Rattle.ordered.proofs.Laid.{put_onto, pairs_length}
-use Rattle.binary.specs.declared.FileWritten.TheVariants.{Written, Unwritten}
-use Rattle.binary.specs.Write.{header_with, header_for, parts_of, file_of, file_in, wrote, written_to}
+use Rattle.std.specs.Prelude.{Ok}
+use Rattle.binary.specs.Write.{header_with, header_for, parts_of, file_of, file_in, unwritten, wrote, written_to}
 use Rattle.binary.proofs.Lengths.{file_short}
 use Rattle.binary.proofs.Most.{file_most}
 
@@ -70,13 +70,13 @@ module _ {file parts : List ℕ} (same : parts ≡ file) where
   pub none_put : (out : List ℕ) → out ≡ put_all [] 0 parts → out ≡ []
   none_put out e = e ∙ put_all_past [] 0 parts (omega arith)
 
-  pub too_short : (out : List ℕ) (n : ℕ) → n ≡ length file → length out < n → wrote (Unwritten Short n) out ≡ written_to file out
-  too_short out n e h = rw (lt-ltb (length out) (length file) (omega (arith, e, h))) (ap (λ (k : ℕ). wrote (Unwritten Short k) out) e)
+  pub too_short : (out : List ℕ) (n : ℕ) → n ≡ length file → length out < n → wrote (unwritten Short n) out ≡ written_to file out
+  too_short out n e h = rw (lt-ltb (length out) (length file) (omega (arith, e, h))) (ap (λ (k : ℕ). wrote (unwritten Short k) out) e)
 
   -- the bytes that fit are put, after nothing was
   pub whole : (none out out' : List ℕ) (n : ℕ) → n ≡ length file → n ≤ length out → none ≡ [] → out' ≡ put_all (none ++ out) 0 parts
-      → wrote (Written n) out' ≡ written_to file out
+      → wrote (Ok n) out' ≡ written_to file out
   whole none out out' n m fits nothing put =
       let there : out' ≡ onto file out
       = put ∙ ap (λ (x : List ℕ). put_all (x ++ out) 0 parts) nothing ∙ ap (put_all out 0) same ∙ put_onto out file (omega (arith, m, fits)) in
-      rw (le-ltb (length out) (length file) (omega (arith, m, fits))) (ap₂ (λ (k : ℕ) (l : List ℕ). wrote (Written k) l) m there)
+      rw (le-ltb (length out) (length file) (omega (arith, m, fits))) (ap₂ (λ (k : ℕ) (l : List ℕ). wrote (Ok k) l) m there)

@@ -7,9 +7,8 @@ use mathlib.Core.List.{List}
 use native.Mathlib.Omega.{arith}
 use lib.Dec.{ltb}
 use borrow.Author.Tests.{le-ltb}
-use Rattle.token.specs.Answer.{pair_at}
-use Rattle.token.specs.declared.PairToken.{PairToken}
-use Rattle.token.specs.declared.PairToken.TheVariants.{Inputs, PairRefused}
+use Rattle.token.specs.Answer.{PairToken, pair_at}
+use Rattle.std.specs.Prelude.{Ok, Err}
 use Rattle.circuit.specs.Walk.{first_code}
 use Rattle.circuit.specs.Ordered.{first_latch}
 use Rattle.lines.specs.declared.Fault.TheVariants.{Number, Above}
@@ -28,8 +27,8 @@ unfolding gate_at
 never_gate s n k at = go (pair_at s at (first_code n + 2 * k))
   where
     go : (t : PairToken) → Never (gate_of at t)
-    go (Inputs a b used) = never_got (record { larger = a; smaller = b }) (at + used)
-    go (PairRefused why p) = never_no (Number why) p (λ w. let z : ◌≡◌ {A = ℕ} 0 1 = cc in omega arith)
+    go (Ok t) = never_got (record { larger = t.first; smaller = t.second }) (at + t.used)
+    go (Err e) = never_no (Number e.why) e.place (λ w. let z : ◌≡◌ {A = ℕ} 0 1 = cc in omega arith)
 
 never_gates : (s : List ℕ) (n m at : ℕ) → Never (gates_at s n m at)
 unfolding gates_at

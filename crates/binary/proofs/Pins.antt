@@ -8,27 +8,25 @@ use mathlib.Core.List.{List, [], ◌∷◌}
 use native.Mathlib.Omega.{arith}
 use lib.ListN.{replicate}
 use Rattle.token.specs.Format.{digits_of}
-use Rattle.token.specs.Answer.{digits_at, uint_at, go_on_at, binary_at, delta_at, header_field_at, pair_at}
+use Rattle.token.specs.Answer.{inputs, refused, digits_at, uint_at, go_on_at, binary_at, delta_at, header_field_at, pair_at}
 use Rattle.token.specs.declared.Reason.TheVariants.{LeadingZero, OverLimit, Cut, TooLong, OverReference, ZeroDelta}
-use Rattle.token.specs.declared.PairToken.TheVariants.{Inputs, PairRefused}
 use Rattle.lit.specs.Code.{variable}
 use Rattle.circuit.specs.Walk.{Pair, first_code}
 use Rattle.circuit.specs.Outcome.{lent_of}
 use Rattle.lines.specs.declared.Fault.{Fault}
 use Rattle.lines.specs.declared.Fault.TheVariants.{Number, Missing, Above, TooMany, Short, Reset}
 use Rattle.lines.specs.declared.Header.{Header}
-use Rattle.lines.specs.declared.Ended.{Ended}
-use Rattle.lines.specs.declared.Ended.TheVariants.{After, Broken}
+use Rattle.std.specs.Prelude.{Result, Ok}
+use Rattle.lines.specs.declared.Broken.{Broken}
 use Rattle.lines.specs.declared.Reading.{Reading}
-use Rattle.lines.specs.declared.Reading.TheVariants.{Is, Not}
+use Rattle.lines.specs.Promise.{broken, reading_of}
 use Rattle.lines.specs.Reading.{got, no}
 use Rattle.lines.specs.Lines.{is_byte, byte_at, tag_at, number_at, line_at, lines_at, latch_line, reset_line_at, reset_at, latch_at, latches_at}
 use Rattle.lines.specs.Sections.{roots_of, count_at, others_at, counts_at, header_at, root_room_at, properties_at, sizes_at, roots_at}
 use Rattle.ordered.specs.Expand.{expansion}
-use Rattle.binary.specs.declared.FileAnswer.{FileAnswer}
-use Rattle.binary.specs.declared.FileAnswer.TheVariants.{Taken, Refused}
+use Rattle.binary.specs.declared.FileRead.{FileRead}
 use Rattle.binary.specs.File.{tag, gate_of, gate_at, gates_at, File, Room, room_for, counts_of, file_with, sized_at, lists_at, body_at, read_file}
-use Rattle.binary.specs.Promise.{StoresGates, Lists, lists_of, room_of, written, cleared, StoresFile, answered, Outcome, seen, left, outcome, Roomy}
+use Rattle.binary.specs.Promise.{StoresGates, Lists, lists_of, room_of, written, cleared, StoresFile, answered, numbers, StoresRead, Outcome, seen, left, outcome, Roomy}
 use Rattle.binary.specs.Way.{Lending, handed_from, Enough}
 
 -- 1. Gates.
@@ -38,8 +36,8 @@ pair a b = record { larger = a; smaller = b }
 
 pub gates_pinned :
     -- a pair with its place
-    (gate_of 5 (Inputs 9 7 2) ≡ got (pair 9 7) 7)
-    × (gate_of 5 (PairRefused Cut 3) ≡ no (Number Cut) 3)
+    (gate_of 5 (inputs 9 7 2) ≡ got (pair 9 7) 7)
+    × (gate_of 5 (refused Cut 3) ≡ no (Number Cut) 3)
     -- over three sources the first gate's code is 8; over four the third gate's is 14
     × (gate_at (255 ∷ 2 ∷ 4 ∷ []) 3 0 1 ≡ got (pair 6 2) 3)
     × (gate_at (255 ∷ 2 ∷ 4 ∷ []) 4 2 1 ≡ got (pair 12 8) 3)
@@ -153,81 +151,90 @@ filled = lists (8 ∷ 22 ∷ []) (1 ∷ 52 ∷ []) (6 ∷ 2 ∷ 8 ∷ 3 ∷ 10 �
 abbrev clean : Lists
 clean = lists (0 ∷ 0 ∷ []) (0 ∷ 0 ∷ []) (0 ∷ 0 ∷ 0 ∷ 0 ∷ 0 ∷ 0 ∷ 0 ∷ []) (0 ∷ 0 ∷ 0 ∷ []) (0 ∷ 0 ∷ 0 ∷ 0 ∷ 0 ∷ 0 ∷ 0 ∷ 0 ∷ 0 ∷ 0 ∷ [])
 
--- the answer, inputs, latches, gates, counts, sets, and the lists
-abbrev leaves : FileAnswer → ℕ → ℕ → ℕ → List ℕ → ℕ → Lists → Outcome
-leaves answer inputs latches gates counts sets after =
-    record { read = record { answer = answer; inputs = inputs; latches = latches; gates = gates; counts = counts; sets = sets }; lists = after }
+-- the bytes used, inputs, latches, gates, counts and sets
+abbrev numbers_of : ℕ → ℕ → ℕ → ℕ → List ℕ → ℕ → FileRead
+numbers_of used i l a counts sets = record { used = used; inputs = i; latches = l; gates = a; counts = counts; sets = sets }
+
+-- these as they are answered, and the lists
+abbrev leaves : ℕ → ℕ → ℕ → ℕ → List ℕ → ℕ → Lists → Outcome
+leaves used i l a counts sets after = record { read = Ok (numbers_of used i l a counts sets); lists = after }
 
 -- a refusal: nothing but why and where, and these lists
-abbrev refused : Fault → ℕ → Lists → Outcome
-refused why place after = leaves (Refused why place) 0 0 0 (0 ∷ 0 ∷ 0 ∷ 0 ∷ 0 ∷ []) 0 after
+abbrev refuses : Fault → ℕ → Lists → Outcome
+refuses why place after = record { read = broken why place; lists = after }
 
 pub left_pinned :
     (lists_of (1 ∷ []) (2 ∷ []) (3 ∷ []) (4 ∷ []) (5 ∷ []) ≡ lists (1 ∷ []) (2 ∷ []) (3 ∷ []) (4 ∷ []) (5 ∷ []))
     × (room_of dirty ≡ room 2 2 7 3 10)
     × (written small_file dirty ≡ filled)
     × (cleared dirty ≡ clean)
-    × (answered (got small_file 55) ≡ (leaves (Taken 55) 2 1 3 (2 ∷ 1 ∷ 1 ∷ 1 ∷ 3 ∷ []) 2 dirty).read)
-    × (answered (no Above 7) ≡ (refused Above 7 dirty).read)
-    × (seen (answered (no Above 7)) clean ≡ refused Above 7 clean)
-    × (left (got small_file 55) dirty ≡ leaves (Taken 55) 2 1 3 (2 ∷ 1 ∷ 1 ∷ 1 ∷ 3 ∷ []) 2 filled)
-    × (left (no Above 7) dirty ≡ refused Above 7 clean)
-left_pinned = (refl, refl, refl, refl, refl, refl, refl, refl, refl)
+    × (answered (got small_file 55) ≡ (leaves 55 2 1 3 (2 ∷ 1 ∷ 1 ∷ 1 ∷ 3 ∷ []) 2 dirty).read)
+    × (answered (no Above 7) ≡ broken Above 7)
+    × (seen (answered (no Above 7)) clean ≡ refuses Above 7 clean)
+    × (left (got small_file 55) dirty ≡ leaves 55 2 1 3 (2 ∷ 1 ∷ 1 ∷ 1 ∷ 3 ∷ []) 2 filled)
+    × (left (no Above 7) dirty ≡ refuses Above 7 clean)
+    -- the numbers of what is taken; all 0 for a refusal
+    × (numbers (Ok (numbers_of 55 2 1 3 (2 ∷ 1 ∷ 1 ∷ 1 ∷ 3 ∷ []) 2)) ≡ numbers_of 55 2 1 3 (2 ∷ 1 ∷ 1 ∷ 1 ∷ 3 ∷ []) 2)
+    × (numbers (broken Above 7) ≡ numbers_of 0 0 0 0 (0 ∷ 0 ∷ 0 ∷ 0 ∷ 0 ∷ []) 0)
+left_pinned = (refl, refl, refl, refl, refl, refl, refl, refl, refl, refl, refl)
 
 -- inside: gates two words each from the list's start on; all but the header, with the number of justice literals; of a refusal only the answer is told
-pub stores_pinned : (e : Ended) (r : Reading) (list : List ℕ) (after : Lists)
-    → (◌≡◌ {A = Type 0} (StoresGates (got (pair 6 2 ∷ pair 8 3 ∷ []) 9) e (21 ∷ 22 ∷ 23 ∷ 24 ∷ 25 ∷ []) list) ((e ≡ After 9) × (list ≡ (6 ∷ 2 ∷ 8 ∷ 3 ∷ 25 ∷
+pub stores_pinned : (e : Result ℕ Broken) (r : Result Reading Broken) (t : Result FileRead Broken) (list : List ℕ) (after : Lists)
+    → (◌≡◌ {A = Type 0} (StoresGates (got (pair 6 2 ∷ pair 8 3 ∷ []) 9) e (21 ∷ 22 ∷ 23 ∷ 24 ∷ 25 ∷ []) list) ((e ≡ Ok 9) × (list ≡ (6 ∷ 2 ∷ 8 ∷ 3 ∷ 25 ∷
     []))))
-    × (◌≡◌ {A = Type 0} (StoresGates (no Above 7) e (21 ∷ 22 ∷ 23 ∷ []) list) (e ≡ Broken Above 7))
-    × (◌≡◌ {A = Type 0} (StoresFile (got small_file 55) r dirty after) ((r ≡ Is 3 55) × (after ≡ filled)))
-    × (◌≡◌ {A = Type 0} (StoresFile (no Above 7) r dirty after) (r ≡ Not Above 7))
-stores_pinned e r list after = (refl, refl, refl, refl)
+    × (◌≡◌ {A = Type 0} (StoresGates (no Above 7) e (21 ∷ 22 ∷ 23 ∷ []) list) (e ≡ broken Above 7))
+    × (◌≡◌ {A = Type 0} (StoresFile (got small_file 55) r dirty after) ((r ≡ Ok (reading_of 3 55)) × (after ≡ filled)))
+    × (◌≡◌ {A = Type 0} (StoresFile (no Above 7) r dirty after) (r ≡ broken Above 7))
+    × (◌≡◌ {A = Type 0} (StoresRead (got small_file 55) t dirty after)
+    ((t ≡ Ok (numbers_of 55 2 1 3 (2 ∷ 1 ∷ 1 ∷ 1 ∷ 3 ∷ []) 2)) × (after ≡ filled)))
+    × (◌≡◌ {A = Type 0} (StoresRead (no Above 7) t dirty after) (t ≡ broken Above 7))
+stores_pinned e r t list after = (refl, refl, refl, refl, refl, refl)
 
 -- 5. Whole files.
 
 pub outcomes_pinned :
     -- the file, and into lists that are just long enough
-    (outcome small dirty ≡ leaves (Taken 55) 2 1 3 (2 ∷ 1 ∷ 1 ∷ 1 ∷ 3 ∷ []) 2 filled)
+    (outcome small dirty ≡ leaves 55 2 1 3 (2 ∷ 1 ∷ 1 ∷ 1 ∷ 3 ∷ []) 2 filled)
     × (outcome small (lists (9 ∷ []) (9 ∷ []) (9 ∷ 9 ∷ 9 ∷ 9 ∷ 9 ∷ 9 ∷ []) (9 ∷ 9 ∷ []) (9 ∷ 9 ∷ 9 ∷ 9 ∷ 9 ∷ 9 ∷ 9 ∷ 9 ∷ []))
-    ≡ leaves (Taken 55) 2 1 3 (2 ∷ 1 ∷ 1 ∷ 1 ∷ 3 ∷ []) 2 (lists (8 ∷ []) (1 ∷ []) (6 ∷ 2 ∷ 8 ∷ 3 ∷ 10 ∷ 9 ∷ []) (2 ∷ 1 ∷ []) (12 ∷ 13 ∷ 9 ∷ 3 ∷ 7 ∷ 6 ∷ 11 ∷ 5 ∷ [])))
+    ≡ leaves 55 2 1 3 (2 ∷ 1 ∷ 1 ∷ 1 ∷ 3 ∷ []) 2 (lists (8 ∷ []) (1 ∷ []) (6 ∷ 2 ∷ 8 ∷ 3 ∷ 10 ∷ 9 ∷ []) (2 ∷ 1 ∷ []) (12 ∷ 13 ∷ 9 ∷ 3 ∷ 7 ∷ 6 ∷ 11 ∷ 5 ∷ [])))
     -- each list a cell too short; the roots where the sizes end
     × (outcome small (lists [] dirty.resets dirty.gates dirty.sizes dirty.roots)
-    ≡ refused Short 22 (lists [] clean.resets clean.gates clean.sizes clean.roots))
+    ≡ refuses Short 22 (lists [] clean.resets clean.gates clean.sizes clean.roots))
     × (outcome small (lists dirty.nexts [] dirty.gates dirty.sizes dirty.roots)
-    ≡ refused Short 22 (lists clean.nexts [] clean.gates clean.sizes clean.roots))
+    ≡ refuses Short 22 (lists clean.nexts [] clean.gates clean.sizes clean.roots))
     × (outcome small (lists dirty.nexts dirty.resets (1 ∷ 2 ∷ 3 ∷ 4 ∷ 5 ∷ []) dirty.sizes dirty.roots)
-    ≡ refused Short 22 (lists clean.nexts clean.resets (0 ∷ 0 ∷ 0 ∷ 0 ∷ 0 ∷ []) clean.sizes clean.roots))
+    ≡ refuses Short 22 (lists clean.nexts clean.resets (0 ∷ 0 ∷ 0 ∷ 0 ∷ 0 ∷ []) clean.sizes clean.roots))
     × (outcome small (lists dirty.nexts dirty.resets dirty.gates (1 ∷ []) dirty.roots)
-    ≡ refused Short 22 (lists clean.nexts clean.resets clean.gates (0 ∷ []) clean.roots))
+    ≡ refuses Short 22 (lists clean.nexts clean.resets clean.gates (0 ∷ []) clean.roots))
     × (outcome small (lists dirty.nexts dirty.resets dirty.gates dirty.sizes (1 ∷ 2 ∷ 3 ∷ 4 ∷ 5 ∷ 6 ∷ 7 ∷ []))
-    ≡ refused Short 40 (lists clean.nexts clean.resets clean.gates clean.sizes (0 ∷ 0 ∷ 0 ∷ 0 ∷ 0 ∷ 0 ∷ 0 ∷ [])))
+    ≡ refuses Short 40 (lists clean.nexts clean.resets clean.gates clean.sizes (0 ∷ 0 ∷ 0 ∷ 0 ∷ 0 ∷ 0 ∷ 0 ∷ [])))
     -- aig 0 0 0 0 0\n
-    × (outcome (97 ∷ 105 ∷ 103 ∷ 32 ∷ 48 ∷ 32 ∷ 48 ∷ 32 ∷ 48 ∷ 32 ∷ 48 ∷ 32 ∷ 48 ∷ 10 ∷ []) dirty ≡ leaves (Taken 14) 0 0 0 (0 ∷ 0 ∷ 0 ∷ 0 ∷ 0 ∷ []) 0 dirty)
+    × (outcome (97 ∷ 105 ∷ 103 ∷ 32 ∷ 48 ∷ 32 ∷ 48 ∷ 32 ∷ 48 ∷ 32 ∷ 48 ∷ 32 ∷ 48 ∷ 10 ∷ []) dirty ≡ leaves 14 0 0 0 (0 ∷ 0 ∷ 0 ∷ 0 ∷ 0 ∷ []) 0 dirty)
     -- no byte; aig 05; aig 3 1 0 0 1\n; two justice sizes that sum to 1048576
-    × (outcome [] dirty ≡ refused Missing 0 clean)
-    × (outcome (97 ∷ 105 ∷ 103 ∷ 32 ∷ 48 ∷ 53 ∷ []) dirty ≡ refused (Number LeadingZero) 4 clean)
-    × (outcome (97 ∷ 105 ∷ 103 ∷ 32 ∷ 51 ∷ 32 ∷ 49 ∷ 32 ∷ 48 ∷ 32 ∷ 48 ∷ 32 ∷ 49 ∷ 10 ∷ []) dirty ≡ refused Above 14 clean)
+    × (outcome [] dirty ≡ refuses Missing 0 clean)
+    × (outcome (97 ∷ 105 ∷ 103 ∷ 32 ∷ 48 ∷ 53 ∷ []) dirty ≡ refuses (Number LeadingZero) 4 clean)
+    × (outcome (97 ∷ 105 ∷ 103 ∷ 32 ∷ 51 ∷ 32 ∷ 49 ∷ 32 ∷ 48 ∷ 32 ∷ 48 ∷ 32 ∷ 49 ∷ 10 ∷ []) dirty ≡ refuses Above 14 clean)
     × (outcome (97 ∷ 105 ∷ 103 ∷ 32 ∷ 48 ∷ 32 ∷ 48 ∷ 32 ∷ 48 ∷ 32 ∷ 48 ∷ 32 ∷ 48 ∷ 32 ∷ 48 ∷ 32 ∷ 48 ∷ 32 ∷ 50 ∷ 10 ∷ 49 ∷ 48 ∷ 52 ∷ 56 ∷ 53 ∷ 55 ∷ 53 ∷ 10 ∷
-    49 ∷ 10 ∷ []) dirty ≡ refused TooMany 30 clean)
+    49 ∷ 10 ∷ []) dirty ≡ refuses TooMany 30 clean)
     -- a latch over 2M + 1, and an output: aig 2 1 1 1 0\n6\n, aig 2 1 1 1 0\n5\n6\n
-    × (outcome (97 ∷ 105 ∷ 103 ∷ 32 ∷ 50 ∷ 32 ∷ 49 ∷ 32 ∷ 49 ∷ 32 ∷ 49 ∷ 32 ∷ 48 ∷ 10 ∷ 54 ∷ 10 ∷ []) dirty ≡ refused (Number OverLimit) 14 clean)
-    × (outcome (97 ∷ 105 ∷ 103 ∷ 32 ∷ 50 ∷ 32 ∷ 49 ∷ 32 ∷ 49 ∷ 32 ∷ 49 ∷ 32 ∷ 48 ∷ 10 ∷ 53 ∷ 10 ∷ 54 ∷ 10 ∷ []) dirty ≡ refused (Number OverLimit) 16 clean)
+    × (outcome (97 ∷ 105 ∷ 103 ∷ 32 ∷ 50 ∷ 32 ∷ 49 ∷ 32 ∷ 49 ∷ 32 ∷ 49 ∷ 32 ∷ 48 ∷ 10 ∷ 54 ∷ 10 ∷ []) dirty ≡ refuses (Number OverLimit) 14 clean)
+    × (outcome (97 ∷ 105 ∷ 103 ∷ 32 ∷ 50 ∷ 32 ∷ 49 ∷ 32 ∷ 49 ∷ 32 ∷ 49 ∷ 32 ∷ 48 ∷ 10 ∷ 53 ∷ 10 ∷ 54 ∷ 10 ∷ []) dirty ≡ refuses (Number OverLimit) 16 clean)
     -- a latch's reset: aig 2 1 1 0 0\n5 and then ` 4`, its own literal, absent, ` 5`, ` 2`; and the newline of ` 3` missing, which is 22 all the same
     × (outcome (97 ∷ 105 ∷ 103 ∷ 32 ∷ 50 ∷ 32 ∷ 49 ∷ 32 ∷ 49 ∷ 32 ∷ 48 ∷ 32 ∷ 48 ∷ 10 ∷ 53 ∷ 32 ∷ 52 ∷ 10 ∷ []) dirty
-    ≡ leaves (Taken 18) 1 1 0 (0 ∷ 0 ∷ 0 ∷ 0 ∷ 0 ∷ []) 0 (lists (5 ∷ 22 ∷ []) (4 ∷ 52 ∷ []) dirty.gates dirty.sizes dirty.roots))
+    ≡ leaves 18 1 1 0 (0 ∷ 0 ∷ 0 ∷ 0 ∷ 0 ∷ []) 0 (lists (5 ∷ 22 ∷ []) (4 ∷ 52 ∷ []) dirty.gates dirty.sizes dirty.roots))
     × (outcome (97 ∷ 105 ∷ 103 ∷ 32 ∷ 50 ∷ 32 ∷ 49 ∷ 32 ∷ 49 ∷ 32 ∷ 48 ∷ 32 ∷ 48 ∷ 10 ∷ 53 ∷ 10 ∷ []) dirty
-    ≡ leaves (Taken 16) 1 1 0 (0 ∷ 0 ∷ 0 ∷ 0 ∷ 0 ∷ []) 0 (lists (5 ∷ 22 ∷ []) (0 ∷ 52 ∷ []) dirty.gates dirty.sizes dirty.roots))
-    × (outcome (97 ∷ 105 ∷ 103 ∷ 32 ∷ 50 ∷ 32 ∷ 49 ∷ 32 ∷ 49 ∷ 32 ∷ 48 ∷ 32 ∷ 48 ∷ 10 ∷ 53 ∷ 32 ∷ 53 ∷ 10 ∷ []) dirty ≡ refused Reset 16 clean)
-    × (outcome (97 ∷ 105 ∷ 103 ∷ 32 ∷ 50 ∷ 32 ∷ 49 ∷ 32 ∷ 49 ∷ 32 ∷ 48 ∷ 32 ∷ 48 ∷ 10 ∷ 53 ∷ 32 ∷ 50 ∷ 10 ∷ []) dirty ≡ refused Reset 16 clean)
-    × (outcome (97 ∷ 105 ∷ 103 ∷ 32 ∷ 50 ∷ 32 ∷ 49 ∷ 32 ∷ 49 ∷ 32 ∷ 48 ∷ 32 ∷ 48 ∷ 10 ∷ 53 ∷ 32 ∷ 51 ∷ []) dirty ≡ refused Reset 16 clean)
+    ≡ leaves 16 1 1 0 (0 ∷ 0 ∷ 0 ∷ 0 ∷ 0 ∷ []) 0 (lists (5 ∷ 22 ∷ []) (0 ∷ 52 ∷ []) dirty.gates dirty.sizes dirty.roots))
+    × (outcome (97 ∷ 105 ∷ 103 ∷ 32 ∷ 50 ∷ 32 ∷ 49 ∷ 32 ∷ 49 ∷ 32 ∷ 48 ∷ 32 ∷ 48 ∷ 10 ∷ 53 ∷ 32 ∷ 53 ∷ 10 ∷ []) dirty ≡ refuses Reset 16 clean)
+    × (outcome (97 ∷ 105 ∷ 103 ∷ 32 ∷ 50 ∷ 32 ∷ 49 ∷ 32 ∷ 49 ∷ 32 ∷ 48 ∷ 32 ∷ 48 ∷ 10 ∷ 53 ∷ 32 ∷ 50 ∷ 10 ∷ []) dirty ≡ refuses Reset 16 clean)
+    × (outcome (97 ∷ 105 ∷ 103 ∷ 32 ∷ 50 ∷ 32 ∷ 49 ∷ 32 ∷ 49 ∷ 32 ∷ 48 ∷ 32 ∷ 48 ∷ 10 ∷ 53 ∷ 32 ∷ 51 ∷ []) dirty ≡ refuses Reset 16 clean)
     -- aig 3 2 0 1 1\n6\n and a gate that is cut, one with a delta of nine bytes, one with a delta over its reference
-    × (outcome (97 ∷ 105 ∷ 103 ∷ 32 ∷ 51 ∷ 32 ∷ 50 ∷ 32 ∷ 48 ∷ 32 ∷ 49 ∷ 32 ∷ 49 ∷ 10 ∷ 54 ∷ 10 ∷ 0 ∷ []) dirty ≡ refused (Number Cut) 17 clean)
+    × (outcome (97 ∷ 105 ∷ 103 ∷ 32 ∷ 51 ∷ 32 ∷ 50 ∷ 32 ∷ 48 ∷ 32 ∷ 49 ∷ 32 ∷ 49 ∷ 10 ∷ 54 ∷ 10 ∷ 0 ∷ []) dirty ≡ refuses (Number Cut) 17 clean)
     × (outcome (97 ∷ 105 ∷ 103 ∷ 32 ∷ 51 ∷ 32 ∷ 50 ∷ 32 ∷ 48 ∷ 32 ∷ 49 ∷ 32 ∷ 49 ∷ 10 ∷ 54 ∷ 10 ∷ 128 ∷ 128 ∷ 128 ∷ 128 ∷ 128 ∷ 128 ∷ 128 ∷ 128 ∷ 0 ∷
-    []) dirty ≡ refused (Number TooLong) 16 clean)
-    × (outcome (97 ∷ 105 ∷ 103 ∷ 32 ∷ 51 ∷ 32 ∷ 50 ∷ 32 ∷ 48 ∷ 32 ∷ 49 ∷ 32 ∷ 49 ∷ 10 ∷ 54 ∷ 10 ∷ 0 ∷ 7 ∷ []) dirty ≡ refused (Number OverReference) 17 clean)
+    []) dirty ≡ refuses (Number TooLong) 16 clean)
+    × (outcome (97 ∷ 105 ∷ 103 ∷ 32 ∷ 51 ∷ 32 ∷ 50 ∷ 32 ∷ 48 ∷ 32 ∷ 49 ∷ 32 ∷ 49 ∷ 10 ∷ 54 ∷ 10 ∷ 0 ∷ 7 ∷ []) dirty ≡ refuses (Number OverReference) 17 clean)
     -- aig 4 2 0 0 2\n and a second gate whose first delta is zero, by one byte and by two
-    × (outcome (97 ∷ 105 ∷ 103 ∷ 32 ∷ 52 ∷ 32 ∷ 50 ∷ 32 ∷ 48 ∷ 32 ∷ 48 ∷ 32 ∷ 50 ∷ 10 ∷ 2 ∷ 2 ∷ 0 ∷ 2 ∷ []) dirty ≡ refused (Number ZeroDelta) 16 clean)
-    × (outcome (97 ∷ 105 ∷ 103 ∷ 32 ∷ 52 ∷ 32 ∷ 50 ∷ 32 ∷ 48 ∷ 32 ∷ 48 ∷ 32 ∷ 50 ∷ 10 ∷ 2 ∷ 2 ∷ 128 ∷ 0 ∷ 2 ∷ []) dirty ≡ refused (Number ZeroDelta) 16 clean)
+    × (outcome (97 ∷ 105 ∷ 103 ∷ 32 ∷ 52 ∷ 32 ∷ 50 ∷ 32 ∷ 48 ∷ 32 ∷ 48 ∷ 32 ∷ 50 ∷ 10 ∷ 2 ∷ 2 ∷ 0 ∷ 2 ∷ []) dirty ≡ refuses (Number ZeroDelta) 16 clean)
+    × (outcome (97 ∷ 105 ∷ 103 ∷ 32 ∷ 52 ∷ 32 ∷ 50 ∷ 32 ∷ 48 ∷ 32 ∷ 48 ∷ 32 ∷ 50 ∷ 10 ∷ 2 ∷ 2 ∷ 128 ∷ 0 ∷ 2 ∷ []) dirty ≡ refuses (Number ZeroDelta) 16 clean)
 unfolding digits_of digits_at uint_at go_on_at binary_at delta_at header_field_at pair_at first_code is_byte byte_at tag_at number_at line_at lines_at reset_line_at reset_at latch_at
     latches_at count_at others_at counts_at header_at root_room_at properties_at sizes_at roots_at gate_at gates_at sized_at lists_at body_at read_file
 outcomes_pinned = (refl, refl, refl, refl, refl, refl, refl, refl, refl, refl, refl, refl, refl, refl, refl, refl, refl, refl, refl, refl, refl, refl, refl, refl)
@@ -256,7 +263,7 @@ pub way_pinned :
     ≡ lent_of (record { top = variable 6; counts = 2 ∷ 1 ∷ 1 ∷ 1 ∷ 3 ∷ []; trim = true; hash = false; fold = true }) (2 ∷ 4 ∷ []) (6 ∷ []) (8 ∷ [])
     (1 ∷ []) (8 ∷ 6 ∷ 2 ∷ 10 ∷ 8 ∷ 3 ∷ 12 ∷ 10 ∷ 9 ∷ []) (12 ∷ 13 ∷ 9 ∷ 3 ∷ 7 ∷ 6 ∷ 11 ∷ 5 ∷ []) (71 ∷ 72 ∷ 73 ∷ 74 ∷ 75 ∷ 76 ∷ 77 ∷ []) (78 ∷ []) (79 ∷ [])
     (81 ∷ 82 ∷ 83 ∷ 84 ∷ 85 ∷ 86 ∷ 87 ∷ 88 ∷ []) (91 ∷ 92 ∷ 93 ∷ 94 ∷ 95 ∷ 96 ∷ []) (replicate 30 99))
-    × Enough (outcome small dirty).read lending
+    × Enough (numbers (outcome small dirty).read) lending
 unfolding digits_of digits_at uint_at go_on_at binary_at delta_at header_field_at pair_at first_code is_byte byte_at tag_at number_at line_at lines_at reset_line_at reset_at latch_at
     latches_at count_at others_at counts_at header_at root_room_at properties_at sizes_at roots_at gate_at gates_at sized_at lists_at body_at read_file expansion
 way_pinned = (

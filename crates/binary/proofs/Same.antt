@@ -11,9 +11,7 @@ use lib.ListN.{length, take, length-append, length-map}
 use lib.Seq.{take_all, take-length, length-take-le}
 use borrow.Author.Tests.{ltb-true, ltb-false}
 use Rattle.token.specs.Format.{Bytes, Grouped, final, group, shortest}
-use Rattle.token.specs.Answer.{binary_at, delta_at, pair_at}
-use Rattle.token.specs.declared.Token.TheVariants.{Value}
-use Rattle.token.specs.declared.PairToken.TheVariants.{Inputs}
+use Rattle.token.specs.Answer.{value, inputs, binary_at, delta_at, pair_at}
 use Rattle.token.proofs.Theorems.{grouped_reads, shortest_is_least, shortest_is_only, delta_from_reference, pair_exactly}
 use Rattle.circuit.specs.Walk.{Pair, first_code}
 use Rattle.circuit.specs.Ordered.{first_latch}
@@ -63,17 +61,17 @@ grouped_bytes (group on small g) zero = small
 grouped_bytes (group on small g) (suc i) = grouped_bytes g i
 
 delta_told : (reference v : ℕ) (w : List ℕ) → Delta reference v w → Told (Fewest w) (shortest (reference - v)) w
-delta_told reference v w (low, g, few, value) =
+delta_told reference v w (low, g, few, means) =
     let d : ℕ = reference - v in
-    let read : binary_at w 0 ≡ Value d (length w) =
-    ap (λ (l : List ℕ). binary_at l 0) (sym (append-nil w)) ∙ grouped_reads w g few [] [] ∙ ap (λ (x : ℕ). Value x (length w)) value in
+    let read : binary_at w 0 ≡ value d (length w) =
+    ap (λ (l : List ℕ). binary_at l 0) (sym (append-nil w)) ∙ grouped_reads w g few [] [] ∙ ap (λ (x : ℕ). value x (length w)) means in
     let least : Least (shortest d) w =
     record {
       fewest = shortest_is_least w 0 d (length w) read;
       only = λ e. sym (take-length w) ∙ shortest_is_only w 0 d (length w) (grouped_bytes g) read (sym e);
     } in
     told_by (shortest d) w least
-    (λ e. ap length e ∙ ap (λ (x : ℕ). length (shortest x)) (sym value), λ e. least.only (e ∙ ap (λ (x : ℕ). length (shortest x)) value))
+    (λ e. ap length e ∙ ap (λ (x : ℕ). length (shortest x)) (sym means), λ e. least.only (e ∙ ap (λ (x : ℕ). length (shortest x)) means))
 
 gate_told : (n k : ℕ) (p : Pair) (w : List ℕ) (t : Gate n k p w) → Told (ShortestGate n k p w t) (gate_bytes (first_code n + 2 * k) p) w
 gate_told n k p w (below, t) =
@@ -255,17 +253,17 @@ module _ (s : List ℕ) (room : Room) (f : File) (n : ℕ) (small : Bytes s) (re
 
 -- fewest bytes
 
-delta_fewest : (s : List ℕ) (at reference v n : ℕ) → delta_at s at reference ≡ Value v n → length (shortest (reference - v)) ≤ n
+delta_fewest : (s : List ℕ) (at reference v n : ℕ) → delta_at s at reference ≡ value v n → length (shortest (reference - v)) ≤ n
 delta_fewest s at reference v n e = shortest_is_least s at (reference - v) n (delta_from_reference s at reference v n e).1
 
 -- whatever bytes are read as a delta of a gate, or as the gate, are at least as many as ours
 pub fewest_bytes : (code : ℕ) (p : Pair) (s : List ℕ) (at n : ℕ)
-    → (delta_at s at code ≡ Value p.larger n → length (shortest (code - p.larger)) ≤ n)
-    × (delta_at s at p.larger ≡ Value p.smaller n → length (shortest (p.larger - p.smaller)) ≤ n)
-    × (pair_at s at code ≡ Inputs p.larger p.smaller n → length (gate_bytes code p) ≤ n)
+    → (delta_at s at code ≡ value p.larger n → length (shortest (code - p.larger)) ≤ n)
+    × (delta_at s at p.larger ≡ value p.smaller n → length (shortest (p.larger - p.smaller)) ≤ n)
+    × (pair_at s at code ≡ inputs p.larger p.smaller n → length (gate_bytes code p) ≤ n)
 fewest_bytes code p s at n = (delta_fewest s at code p.larger n, delta_fewest s at p.larger p.smaller n, both)
   where
-    both : pair_at s at code ≡ Inputs p.larger p.smaller n → length (gate_bytes code p) ≤ n
+    both : pair_at s at code ≡ inputs p.larger p.smaller n → length (gate_bytes code p) ≤ n
     both e =
         let q = (pair_exactly s at code p.larger p.smaller n).0 e in
         omega (

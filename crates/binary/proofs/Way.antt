@@ -10,19 +10,18 @@ use Rattle.circuit.specs.Outcome.{Lent, circuit_of, total, pair_words}
 use Rattle.circuit.specs.Claims.{Roomy}
 use Rattle.circuit.proofs.Outcome.{onto-take}
 use Rattle.lines.specs.Reading.{Read, got, no}
-use Rattle.ordered.specs.declared.Expansion.TheVariants.{Expanded}
 use Rattle.ordered.specs.Expand as E
 use Rattle.ordered.proofs.Laid.{words_length}
 use Rattle.ordered.proofs.Theorems as ordered
 use Rattle.binary.specs.File.{File, read_file}
-use Rattle.binary.specs.Promise.{room_of, Outcome, left, outcome}
+use Rattle.binary.specs.Promise.{room_of, numbers, Outcome, left, outcome}
 use Rattle.binary.specs.Known.{Known}
 use Rattle.binary.specs.Way.{Lending, expanded, handed, Enough, Arrives, End, refused, ordered}
 use Rattle.binary.proofs.Known.{read_known}
 
 -- of a file that was read
 module _ (bytes : List ℕ) (f : File) (used : ℕ) (g : Lending) (known : Known bytes (room_of g.file) f)
-    (enough : Enough (left (got f used) g.file).read g) where
+    (enough : Enough (numbers (left (got f used) g.file).read) g) where
   abbrev r : Outcome
   r = left (got f used) g.file
 
@@ -56,9 +55,9 @@ module _ (bytes : List ℕ) (f : File) (used : ℕ) (g : Lending) (known : Known
       ap (λ (ws : List ℕ). E.expansion f.ordered.inputs (length f.ordered.nexts) ws g.codes)
       (onto-take (pair_words f.ordered.gates) g.file.gates (2 * length f.ordered.gates) (words_length f.ordered.gates) known.gates_fit)
 
-  filled : x.answer ≡ Expanded
+  filled : x.answer ≡ E.expanded
   filled =
-      subst⁻¹ (λ (o : E.Outcome). o.answer ≡ Expanded) expands
+      subst⁻¹ (λ (o : E.Outcome). o.answer ≡ E.expanded) expands
       (ordered.fills f.ordered known.well_ordered g.codes enough.inputs enough.states enough.triples)
 
   -- the lists that renumbering writes are long enough
@@ -80,7 +79,7 @@ module _ (bytes : List ℕ) (f : File) (used : ℕ) (g : Lending) (known : Known
         keeps = ordered.values_kept O w g.trim g.hash g.fold g.codes x expands filled l lends (C.outcome l) refl done.0 done.1;
       }
 
-pub two_ends : (bytes : List ℕ) (g : Lending) → Enough (outcome bytes g.file).read g → End bytes g
+pub two_ends : (bytes : List ℕ) (g : Lending) → Enough (numbers (outcome bytes g.file).read) g → End bytes g
 two_ends bytes g enough = go (read_file bytes (room_of g.file)) refl
   where
     go : (R : Read File) → read_file bytes (room_of g.file) ≡ R → End bytes g
@@ -89,4 +88,4 @@ two_ends bytes g enough = go (read_file bytes (room_of g.file)) refl
         let holds : outcome bytes g.file ≡ left (got f used) g.file = ap (λ (R : Read File). left R g.file) e in
         ordered f used e
         (subst⁻¹ (λ (o : Outcome). Arrives f.ordered (handed o (expanded o g) g)) holds
-        (arrives bytes f used g (read_known bytes (room_of g.file) f used e) (subst (λ (o : Outcome). Enough o.read g) holds enough)))
+        (arrives bytes f used g (read_known bytes (room_of g.file) f used e) (subst (λ (o : Outcome). Enough (numbers o.read) g) holds enough)))

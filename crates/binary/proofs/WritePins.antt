@@ -13,11 +13,10 @@ use Rattle.lines.specs.Lines.{is_byte, byte_at, tag_at, number_at, line_at, line
 use Rattle.lines.specs.Sections.{count_at, others_at, counts_at, header_at, root_room_at, properties_at, sizes_at, roots_at}
 use Rattle.sections.specs.Bytes.{line_bytes, count_bytes, reset_bytes, latch_bytes, after_tag, roots_bytes}
 use Rattle.ordered.specs.declared.given.Fault.TheVariants.{TooBig, Misshapen, Over, Reset, Disordered, Short}
-use Rattle.ordered.specs.declared.given.Checked.TheVariants.{Fits, Faulty}
-use Rattle.ordered.specs.Check.{Words, too_large, uneven, checked}
-use Rattle.binary.specs.declared.FileWritten.TheVariants.{Written, Unwritten}
+use Rattle.std.specs.Prelude.{Ok, Err}
+use Rattle.ordered.specs.Check.{Words, fits, too_large, uneven, checked}
 use Rattle.binary.specs.File.{File, gate_at, gates_at, sized_at, lists_at, body_at, read_file}
-use Rattle.binary.specs.Write.{header_with, header_for, gate_bytes, gates_bytes, parts_of, file_of, file_in, wrote, written_to, written_as, writing}
+use Rattle.binary.specs.Write.{header_with, header_for, gate_bytes, gates_bytes, parts_of, file_of, file_in, unwritten, wrote, written_to, written_as, writing}
 use Rattle.binary.proofs.Pins.{pair, room, file, small, small_file, rootless, rootless_file}
 
 -- 1. Whole files.
@@ -105,30 +104,30 @@ small_words = words 2 (2 ∷ 1 ∷ 1 ∷ 1 ∷ 3 ∷ []) (8 ∷ []) (1 ∷ []) (
 pub answers_pinned :
     (file_in small_words ≡ small_file)
     -- onto the front of longer bytes, which are kept behind; just as many; one too few, and none: 3 names how many are needed
-    × (written_to (7 ∷ 8 ∷ []) (1 ∷ 2 ∷ 3 ∷ []) ≡ wrote (Written 2) (7 ∷ 8 ∷ 3 ∷ []))
-    × (written_to (7 ∷ 8 ∷ []) (1 ∷ 2 ∷ []) ≡ wrote (Written 2) (7 ∷ 8 ∷ []))
-    × (written_to (7 ∷ 8 ∷ []) (1 ∷ []) ≡ wrote (Unwritten Short 2) (1 ∷ []))
-    × (written_to (7 ∷ 8 ∷ []) [] ≡ wrote (Unwritten Short 2) [])
-    × (written_as Fits (7 ∷ 8 ∷ []) (1 ∷ 2 ∷ 3 ∷ []) ≡ wrote (Written 2) (7 ∷ 8 ∷ 3 ∷ []))
-    × (written_as (Faulty TooBig) (7 ∷ 8 ∷ []) (1 ∷ 2 ∷ 3 ∷ []) ≡ wrote (Unwritten TooBig 0) (1 ∷ 2 ∷ 3 ∷ []))
+    × (written_to (7 ∷ 8 ∷ []) (1 ∷ 2 ∷ 3 ∷ []) ≡ wrote (Ok 2) (7 ∷ 8 ∷ 3 ∷ []))
+    × (written_to (7 ∷ 8 ∷ []) (1 ∷ 2 ∷ []) ≡ wrote (Ok 2) (7 ∷ 8 ∷ []))
+    × (written_to (7 ∷ 8 ∷ []) (1 ∷ []) ≡ wrote (unwritten Short 2) (1 ∷ []))
+    × (written_to (7 ∷ 8 ∷ []) [] ≡ wrote (unwritten Short 2) [])
+    × (written_as fits (7 ∷ 8 ∷ []) (1 ∷ 2 ∷ 3 ∷ []) ≡ wrote (Ok 2) (7 ∷ 8 ∷ 3 ∷ []))
+    × (written_as (Err TooBig) (7 ∷ 8 ∷ []) (1 ∷ 2 ∷ 3 ∷ []) ≡ wrote (unwritten TooBig 0) (1 ∷ 2 ∷ 3 ∷ []))
 answers_pinned = (refl, refl, refl, refl, refl, refl, refl)
 
 pub writing_pinned :
     -- the small file, with three bytes behind it; one byte short; the empty circuit into just as many
-    (writing small_words (replicate 55 99 ++ (1 ∷ 2 ∷ 3 ∷ [])) ≡ wrote (Written 55) (small ++ (1 ∷ 2 ∷ 3 ∷ [])))
-    × (writing small_words (replicate 54 99) ≡ wrote (Unwritten Short 55) (replicate 54 99))
-    × (writing (words 0 none [] [] [] [] []) (replicate 14 99) ≡ wrote (Written 14) empty)
-    × (writing (words 0 none [] [] [] [] []) [] ≡ wrote (Unwritten Short 14) [])
+    (writing small_words (replicate 55 99 ++ (1 ∷ 2 ∷ 3 ∷ [])) ≡ wrote (Ok 55) (small ++ (1 ∷ 2 ∷ 3 ∷ [])))
+    × (writing small_words (replicate 54 99) ≡ wrote (unwritten Short 55) (replicate 54 99))
+    × (writing (words 0 none [] [] [] [] []) (replicate 14 99) ≡ wrote (Ok 14) empty)
+    × (writing (words 0 none [] [] [] [] []) [] ≡ wrote (unwritten Short 14) [])
     -- 22, by the latch's literal negated; 2 for a reset that is missing
-    × (writing (words 1 none (2 ∷ []) (5 ∷ []) [] [] []) (7 ∷ 8 ∷ []) ≡ wrote (Unwritten (Reset (literal 5)) 0) (7 ∷ 8 ∷ []))
-    × (writing (words 1 none (2 ∷ []) [] [] [] []) (7 ∷ 8 ∷ []) ≡ wrote (Unwritten Misshapen 0) (7 ∷ 8 ∷ []))
+    × (writing (words 1 none (2 ∷ []) (5 ∷ []) [] [] []) (7 ∷ 8 ∷ []) ≡ wrote (unwritten (Reset (literal 5)) 0) (7 ∷ 8 ∷ []))
+    × (writing (words 1 none (2 ∷ []) [] [] [] []) (7 ∷ 8 ∷ []) ≡ wrote (unwritten Misshapen 0) (7 ∷ 8 ∷ []))
     -- 1; 2 for counts, for sizes and for a word that is left over; 4; 23, by the first input and by the second
-    × (writing (words 1048576 none [] [] [] [] []) (7 ∷ 8 ∷ []) ≡ wrote (Unwritten TooBig 0) (7 ∷ 8 ∷ []))
-    × (writing (words 0 none [] [] [] [] (0 ∷ [])) (7 ∷ 8 ∷ []) ≡ wrote (Unwritten Misshapen 0) (7 ∷ 8 ∷ []))
-    × (writing (words 0 none [] [] [] (1 ∷ []) []) (7 ∷ 8 ∷ []) ≡ wrote (Unwritten Misshapen 0) (7 ∷ 8 ∷ []))
-    × (writing (words 1 none [] [] (2 ∷ []) [] []) (7 ∷ 8 ∷ []) ≡ wrote (Unwritten Misshapen 0) (7 ∷ 8 ∷ []))
-    × (writing (words 1 (1 ∷ 0 ∷ 0 ∷ 0 ∷ 0 ∷ []) [] [] [] [] (4 ∷ [])) (7 ∷ 8 ∷ []) ≡ wrote (Unwritten (Over (literal 4)) 0) (7 ∷ 8 ∷ []))
-    × (writing (words 1 none [] [] (4 ∷ 2 ∷ []) [] []) (7 ∷ 8 ∷ []) ≡ wrote (Unwritten (Disordered (literal 4)) 0) (7 ∷ 8 ∷ []))
-    × (writing (words 1 none [] [] (2 ∷ 3 ∷ []) [] []) (7 ∷ 8 ∷ []) ≡ wrote (Unwritten (Disordered (literal 4)) 0) (7 ∷ 8 ∷ []))
+    × (writing (words 1048576 none [] [] [] [] []) (7 ∷ 8 ∷ []) ≡ wrote (unwritten TooBig 0) (7 ∷ 8 ∷ []))
+    × (writing (words 0 none [] [] [] [] (0 ∷ [])) (7 ∷ 8 ∷ []) ≡ wrote (unwritten Misshapen 0) (7 ∷ 8 ∷ []))
+    × (writing (words 0 none [] [] [] (1 ∷ []) []) (7 ∷ 8 ∷ []) ≡ wrote (unwritten Misshapen 0) (7 ∷ 8 ∷ []))
+    × (writing (words 1 none [] [] (2 ∷ []) [] []) (7 ∷ 8 ∷ []) ≡ wrote (unwritten Misshapen 0) (7 ∷ 8 ∷ []))
+    × (writing (words 1 (1 ∷ 0 ∷ 0 ∷ 0 ∷ 0 ∷ []) [] [] [] [] (4 ∷ [])) (7 ∷ 8 ∷ []) ≡ wrote (unwritten (Over (literal 4)) 0) (7 ∷ 8 ∷ []))
+    × (writing (words 1 none [] [] (4 ∷ 2 ∷ []) [] []) (7 ∷ 8 ∷ []) ≡ wrote (unwritten (Disordered (literal 4)) 0) (7 ∷ 8 ∷ []))
+    × (writing (words 1 none [] [] (2 ∷ 3 ∷ []) [] []) (7 ∷ 8 ∷ []) ≡ wrote (unwritten (Disordered (literal 4)) 0) (7 ∷ 8 ∷ []))
 unfolding digits_of line_bytes count_bytes reset_bytes latch_bytes after_tag roots_bytes first_code shortest parts_of checked too_large uneven writing
 writing_pinned = (refl, refl, refl, refl, refl, refl, refl, refl, refl, refl, refl, refl, refl)

@@ -10,8 +10,9 @@ use lib.ListN.{length, get_or, take, drop}
 use lib.Seq.{take_all}
 use borrow.Author.Tests.{ltb-true, ltb-false}
 use Rattle.token.specs.Format.{Grouped, final, group, groups_value, shortest}
-use Rattle.token.specs.declared.Token.{Token}
-use Rattle.token.specs.declared.Token.TheVariants.{Value}
+use Rattle.std.specs.Prelude.{Result, Ok, Err}
+use Rattle.token.specs.Answer.{Token, value}
+use Rattle.token.proofs.Parts.{value_parts}
 use Rattle.token.proofs.Theorems.{grouped_reads, shortest_reads_back}
 use Rattle.text.proofs.Groups.{groups_one, groups_more, groups_few}
 use Rattle.circuit.specs.Walk.{Pair, first_code}
@@ -30,19 +31,17 @@ use Rattle.sections.proofs.Spelled.{in_a_row, at_last, nexts_back, resets_back}
 use Rattle.sections.proofs.Theorems.{latches_spelled, header_spelled, roots_spelled}
 use Rattle.ordered.specs.declared.given.Fault.{Fault}
 use Rattle.ordered.specs.declared.given.Fault.TheVariants.{Short}
-use Rattle.ordered.specs.declared.given.Checked.{Checked}
-use Rattle.ordered.specs.declared.given.Checked.TheVariants.{Fits, Faulty}
-use Rattle.ordered.specs.Check.{Words, words_of, checked}
+use Rattle.ordered.specs.Check.{Words, words_of, Checked, fits, checked}
 use Rattle.ordered.specs.WellOrdered.{latches_of}
 use Rattle.ordered.specs.Given.{Given}
 use Rattle.circuit.proofs.Resets.{stray_exactly}
 use Rattle.ordered.proofs.Exactly.{resets_within}
 use Rattle.ordered.proofs.Laid.{pairs_of_words}
 use Rattle.ordered.proofs.Theorems.{fits_exactly, always_fits}
-use Rattle.binary.specs.declared.FileWritten.TheVariants.{Written, Unwritten}
 use Rattle.binary.specs.File.{File, Room, tag, counts_of, file_with, body_at, read_file}
 use Rattle.binary.specs.Spelling.{Delta, Gate, Gates, Sized, Listed, Spells}
-use Rattle.binary.specs.Write.{header_for, gate_bytes, gates_bytes, parts_of, file_of, file_in, Writing, wrote, written_to, written_as, writing}
+use Rattle.binary.specs.declared.Unwritten.{Unwritten}
+use Rattle.binary.specs.Write.{header_for, gate_bytes, gates_bytes, parts_of, file_of, file_in, unwritten, Writing, wrote, written_to, written_as, writing}
 use Rattle.binary.specs.Sound.{Sound, Holds}
 use Rattle.binary.proofs.Reading.{nothing_good_refused}
 use Rattle.binary.proofs.Whole.{body_announced}
@@ -61,15 +60,15 @@ shortest_grouped (suc most) d low fits = go (ltb d 128) refl (λ big. shortest_g
         let big = ltb-false d 128 e in
         subst⁻¹ Grouped (groups_more d big fits) (group (omega arith) (omega arith) (rest big))
 
-same_value : {t : Token} {a b n : ℕ} → t ≡ Value a n → t ≡ Value b n → a ≡ b
-same_value {t} {a} {b} {n} e f = let g : Value a n ≡ Value b n = sym e ∙ f in cc
+same_value : {t : Token} {a b n : ℕ} → t ≡ value a n → t ≡ value b n → a ≡ b
+same_value e f = (value_parts (sym e ∙ f)).0
 
 delta_spelled : (reference v d : ℕ) → v ≤ reference → d ≡ reference - v → d < 2 ^ 56 → Delta reference v (shortest d)
 delta_spelled reference v d low e fits =
     let g : Grouped (shortest d) = shortest_grouped d d (omega arith) fits in
     let few : length (shortest d) ≤ 8 = groups_few d fits in
-    let value : groups_value (shortest d) ≡ d = same_value (grouped_reads (shortest d) g few [] []) (shortest_reads_back d fits [] []) in
-    (low, g, few, value ∙ e)
+    let means : groups_value (shortest d) ≡ d = same_value (grouped_reads (shortest d) g few [] []) (shortest_reads_back d fits [] []) in
+    (low, g, few, means ∙ e)
 
 -- gates
 
@@ -231,7 +230,7 @@ pub given_sound : (w : Words) → Given w → length w.counts ≡ 5 → Sound (f
 given_sound w g five = record { well_ordered = g.ordered; five = five; sizes = g.sizes; sets = g.sets }
 
 -- a file that can be written passes the checks as it is lent, and its bytes are written where they fit
-pub sound_fits : (f : File) → Sound f → checked (words_of f.ordered f.sizes) 0 ≡ Fits
+pub sound_fits : (f : File) → Sound f → checked (words_of f.ordered f.sizes) 0 ≡ fits
 sound_fits f k = always_fits f.ordered f.sizes k.well_ordered k.sets k.sizes 0 (omega arith)
 
 lent_back : (f : File) → file_in (words_of f.ordered f.sizes) ≡ f
@@ -261,27 +260,27 @@ sound_written f k out =
 -- what writing answers, and the bytes that it leaves
 
 -- bytes that are written are the file, whatever it is, and what stood behind it; and the checks were passed
-pub written_front : (c : Checked) (file out bytes : List ℕ) (n : ℕ) → written_as c file out ≡ wrote (Written n) bytes
-    → (c ≡ Fits) × (length file ≡ n) × (bytes ≡ file ++ drop (length file) out)
-written_front Fits file out bytes n e = go (ltb (length out) (length file)) refl e
+pub written_front : (c : Checked) (file out bytes : List ℕ) (n : ℕ) → written_as c file out ≡ wrote (Ok n) bytes
+    → (c ≡ fits) × (length file ≡ n) × (bytes ≡ file ++ drop (length file) out)
+written_front (Ok u) file out bytes n e = go (ltb (length out) (length file)) refl e
   where
     go : (b : Bool) → ltb (length out) (length file) ≡ b
-        → cond b (wrote (Unwritten Short (length file)) out) (wrote (Written (length file)) (onto file out)) ≡ wrote (Written n) bytes
-        → (Fits ≡ Fits) × (length file ≡ n) × (bytes ≡ file ++ drop (length file) out)
+        → cond b (wrote (unwritten Short (length file)) out) (wrote (Ok (length file)) (onto file out)) ≡ wrote (Ok n) bytes
+        → (◌≡◌ {A = Checked} (Ok u) fits) × (length file ≡ n) × (bytes ≡ file ++ drop (length file) out)
     go true f g =
-        let answer : Unwritten Short (length file) ≡ Written n = ap (λ (x : Writing). x.answer) g in
+        let answer : unwritten Short (length file) ≡ Ok n = ap (λ (x : Writing). x.answer) g in
         absurd (let z : ◌≡◌ {A = ℕ} 0 1 = cc in omega arith)
     go false f g =
-        let answer : Written (length file) ≡ Written n = ap (λ (x : Writing). x.answer) g in
+        let answer : ◌≡◌ {A = Result ℕ Unwritten} (Ok (length file)) (Ok n) = ap (λ (x : Writing). x.answer) g in
         let used : length file ≡ n = cc in
         let whole : take (length out) file ≡ file = take_all (length out) file (ltb-false (length out) (length file) f) in
         (refl, used, sym (ap (λ (x : Writing). x.bytes) g) ∙ ap (λ (l : List ℕ). l ++ drop (length file) out) whole)
-written_front (Faulty why) file out bytes n e =
-    let answer : Unwritten why 0 ≡ Written n = ap (λ (x : Writing). x.answer) e in
+written_front (Err why) file out bytes n e =
+    let answer : unwritten why 0 ≡ Ok n = ap (λ (x : Writing). x.answer) e in
     absurd (let z : ◌≡◌ {A = ℕ} 0 1 = cc in omega arith)
 
 -- so they are read as the circuit that was lent
-pub written_is_read : (w : Words) (out bytes : List ℕ) (n : ℕ) → writing w out ≡ wrote (Written n) bytes → length w.counts ≡ 5 → (room : Room)
+pub written_is_read : (w : Words) (out bytes : List ℕ) (n : ℕ) → writing w out ≡ wrote (Ok n) bytes → length w.counts ≡ 5 → (room : Room)
     → Holds room (file_in w) → read_file bytes room ≡ got (file_in w) n
 unfolding writing
 written_is_read w out bytes n e five room fits =
@@ -290,18 +289,18 @@ written_is_read w out bytes n e five room fits =
     ap (λ (l : List ℕ). read_file l room) t.2 ∙ reads_back_lem (file_in w) sound room fits (drop (length (file_of (file_in w))) out) ∙ ap (got (file_in w)) t.1
 
 -- a refusal leaves the lent bytes as they were, whatever file was to be written
-pub refused_keeps : (c : Checked) (file out bytes : List ℕ) (why : Fault) (needed : ℕ) → written_as c file out ≡ wrote (Unwritten why needed) bytes
+pub refused_keeps : (c : Checked) (file out bytes : List ℕ) (why : Fault) (needed : ℕ) → written_as c file out ≡ wrote (unwritten why needed) bytes
     → bytes ≡ out
-refused_keeps Fits file out bytes why needed e = go (ltb (length out) (length file)) e
+refused_keeps (Ok u) file out bytes why needed e = go (ltb (length out) (length file)) e
   where
-    go : (b : Bool) → cond b (wrote (Unwritten Short (length file)) out) (wrote (Written (length file)) (onto file out)) ≡ wrote (Unwritten why needed) bytes
+    go : (b : Bool) → cond b (wrote (unwritten Short (length file)) out) (wrote (Ok (length file)) (onto file out)) ≡ wrote (unwritten why needed) bytes
         → bytes ≡ out
     go true g = sym (ap (λ (x : Writing). x.bytes) g)
     go false g =
-        let answer : Written (length file) ≡ Unwritten why needed = ap (λ (x : Writing). x.answer) g in
+        let answer : Ok (length file) ≡ unwritten why needed = ap (λ (x : Writing). x.answer) g in
         absurd (let z : ◌≡◌ {A = ℕ} 0 1 = cc in omega arith)
-refused_keeps (Faulty because) file out bytes why needed e = sym (ap (λ (x : Writing). x.bytes) e)
+refused_keeps (Err because) file out bytes why needed e = sym (ap (λ (x : Writing). x.bytes) e)
 
-pub refusals_keep : (w : Words) (out bytes : List ℕ) (why : Fault) (needed : ℕ) → writing w out ≡ wrote (Unwritten why needed) bytes → bytes ≡ out
+pub refusals_keep : (w : Words) (out bytes : List ℕ) (why : Fault) (needed : ℕ) → writing w out ≡ wrote (unwritten why needed) bytes → bytes ≡ out
 unfolding writing
 refusals_keep w = refused_keeps (checked w 0) (file_of (file_in w))

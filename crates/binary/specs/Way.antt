@@ -1,8 +1,7 @@
 -- From the bytes of a file to an ordered result: the file is read, its gates are expanded, all is lent to renumbering; and how that ends. Assumes nothing.
-use Rattle.std.specs.Prelude.{ℕ, ◌+◌, ◌*◌, ◌≤◌, ◌≡◌, Bool, List, length, take}
+use Rattle.std.specs.Prelude.{ℕ, ◌+◌, ◌*◌, ◌≤◌, ◌≡◌, Bool, List, length, take, Ok}
 use Rattle.lit.specs.Code.{variable}
 use Rattle.circuit.specs.declared.Summary.{Summary}
-use Rattle.circuit.specs.declared.Answer.TheVariants.{Renumbered}
 use Rattle.circuit.specs.Ordered.{Ordered, sources_of, InOrder}
 use Rattle.circuit.specs.Outcome as C
 use Rattle.circuit.specs.Outcome.{Lent, lent_of, total, held}
@@ -12,7 +11,7 @@ use Rattle.ordered.specs.Expand as E
 use Rattle.ordered.specs.Keeps.{Keeps}
 use Rattle.binary.specs.declared.FileRead.{FileRead}
 use Rattle.binary.specs.File.{File, read_file}
-use Rattle.binary.specs.Promise.{Lists, room_of, Outcome, left, outcome}
+use Rattle.binary.specs.Promise.{Lists, room_of, numbers, Outcome, left, outcome}
 
 -- what a caller lends on the way beside the bytes: the lists of the file, those that its codes are expanded into, those that renumbering writes; and
 -- the flags
@@ -35,14 +34,17 @@ top_of r = r.inputs + r.latches + r.gates
 
 -- after a reading that left r: its gates are expanded
 abbrev pub expanded : Outcome → Lending → E.Outcome
-expanded r g = E.expansion r.read.inputs r.read.latches (take (2 * r.read.gates) r.lists.gates) g.codes
+expanded r g =
+    let n = numbers r.read in
+    E.expansion n.inputs n.latches (take (2 * n.gates) r.lists.gates) g.codes
 
 -- and renumbering is lent the numbers that reading answered, the fronts of the lists that reading and expanding left, and the lists that it writes
 abbrev pub handed : Outcome → E.Outcome → Lending → Lent
 handed r x g =
-    lent_of (record { top = variable (top_of r.read); counts = r.read.counts; trim = g.trim; hash = g.hash; fold = g.fold })
-    (take r.read.inputs x.lists.inputs) (take r.read.latches x.lists.states) (take r.read.latches r.lists.nexts)
-    (take r.read.latches r.lists.resets) (take (3 * r.read.gates) x.lists.triples) (take (total r.read.counts) r.lists.roots) g.map
+    let n = numbers r.read in
+    lent_of (record { top = variable (top_of n); counts = n.counts; trim = g.trim; hash = g.hash; fold = g.fold })
+    (take n.inputs x.lists.inputs) (take n.latches x.lists.states) (take n.latches r.lists.nexts)
+    (take n.latches r.lists.resets) (take (3 * n.gates) x.lists.triples) (take (total n.counts) r.lists.roots) g.map
     g.next_images g.reset_images g.root_images g.gates_out g.scratch
 
 -- the whole way from the bytes
@@ -65,7 +67,7 @@ pub record Enough (r : FileRead) (g : Lending) : Type 0 where
 -- each next state and root has, under every setting, the value that O gives it, and each latch its first value
 pub record Arrives (O : Ordered) (l : Lent) : Type 0 where
   pub summary : Summary
-  pub renumbered : (C.outcome l).answer ≡ Renumbered summary
+  pub renumbered : (C.outcome l).answer ≡ Ok summary
   pub no_more : length (held l summary (C.outcome l)).gates ≤ length O.gates
   pub in_order : InOrder (sources_of (held l summary (C.outcome l))) (held l summary (C.outcome l)).gates
   pub keeps : Keeps O (held l summary (C.outcome l))

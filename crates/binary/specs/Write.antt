@@ -1,5 +1,5 @@
 -- Writing a binary AIGER file: the bytes of a circuit as we spell it, and what writing answers and leaves. Assumes nothing.
-use Rattle.std.specs.Prelude.{ℕ, ◌+◌, ◌-◌, cond, List, [], ◌∷◌, ◌++◌, ltb, length, get_or}
+use Rattle.std.specs.Prelude.{ℕ, ◌+◌, ◌-◌, cond, List, [], ◌∷◌, ◌++◌, ltb, length, get_or, Result, Ok, Err}
 use Rattle.token.specs.Format.{shortest}
 use Rattle.circuit.specs.Walk.{Pair, first_code}
 use Rattle.circuit.specs.Ordered.{sources_of}
@@ -7,12 +7,10 @@ use Rattle.circuit.specs.Outcome.{onto}
 use Rattle.lines.specs.declared.Header.{Header}
 use Rattle.lines.specs.Sections.{roots_of}
 use Rattle.sections.specs.Bytes.{latches_bytes, header_bytes, roots_bytes}
+use Rattle.ordered.specs.declared.given.Fault.{Fault}
 use Rattle.ordered.specs.declared.given.Fault.TheVariants.{Short}
-use Rattle.ordered.specs.declared.given.Checked.{Checked}
-use Rattle.ordered.specs.declared.given.Checked.TheVariants.{Fits, Faulty}
 use Rattle.ordered.specs.Check.{Words, circuit_in, checked}
-use Rattle.binary.specs.declared.FileWritten.{FileWritten}
-use Rattle.binary.specs.declared.FileWritten.TheVariants.{Written, Unwritten}
+use Rattle.binary.specs.declared.Unwritten.{Unwritten}
 use Rattle.binary.specs.File.{tag, File}
 
 -- the header of a circuit with I inputs, this row of counts, L latches, A gates and J justice sets: M is V, which is computed
@@ -56,22 +54,26 @@ file_of f =
 abbrev pub file_in : Words → File
 file_in w = record { ordered = circuit_in w; sizes = w.sizes }
 
+-- why nothing is written, and how many bytes are needed
+abbrev pub unwritten : Fault → ℕ → Result ℕ Unwritten
+unwritten why needed = Err (record { why = why; needed = needed })
+
 -- the answer, and the lent bytes afterwards
 pub record Writing : Type 0 where
-  pub answer : FileWritten
+  pub answer : Result ℕ Unwritten
   pub bytes : List ℕ
 
-abbrev pub wrote : FileWritten → List ℕ → Writing
+abbrev pub wrote : Result ℕ Unwritten → List ℕ → Writing
 wrote answer bytes = record { answer = answer; bytes = bytes }
 
 -- bytes onto the front of the lent ones where they fit; else 3, how many they are, and nothing is written
 abbrev pub written_to : List ℕ → List ℕ → Writing
-written_to file out = cond (ltb (length out) (length file)) (wrote (Unwritten Short (length file)) out) (wrote (Written (length file)) (onto file out))
+written_to file out = cond (ltb (length out) (length file)) (wrote (unwritten Short (length file)) out) (wrote (Ok (length file)) (onto file out))
 
 -- what is not an ordered circuit is refused, and nothing is written
-abbrev pub written_as : Checked → List ℕ → List ℕ → Writing
-written_as Fits file out = written_to file out
-written_as (Faulty why) file out = wrote (Unwritten why 0) out
+abbrev pub written_as : Result (Unit {0}) Fault → List ℕ → List ℕ → Writing
+written_as (Ok u) file out = written_to file out
+written_as (Err why) file out = wrote (unwritten why 0) out
 
 -- the whole: what writing the circuit into these bytes answers, and what the bytes are afterwards
 unfoldable pub writing : Words → List ℕ → Writing

@@ -1,8 +1,7 @@
 // The bytes of a binary file, put into lent bytes. What does not fit is not written, and the place after it is answered all the same.
 ghost use Rattle.std.specs.Prelude.{◌≡◌, ◌+◌, ◌*◌, ◌<◌, ◌≤◌, ◌++◌, length};
-ghost use Rattle.place.specs.Place.{further};
 ghost use Rattle.token.specs.Format.{shortest};
-ghost use Rattle.text.specs.Put.{put_all};
+ghost use Rattle.text.specs.Put.{put_all, Puts};
 ghost use Rattle.circuit.specs.Walk.{first_code};
 ghost use Rattle.circuit.specs.Ordered.{InOrder};
 ghost use Rattle.circuit.specs.Outcome.{limit, pairs_of};
@@ -34,8 +33,7 @@ fn put_delta(out: &mut [u8], at: usize, d: u32) -> usize
 // A gate's two deltas in their fewest bytes; the place after them.
 fn put_gate(out: &mut [u8], at: usize, first: u32, second: u32) -> usize
     requires { (first < 2097152) × (second < 2097152) }
-    ensures { (out.new ≡ put_all out.old at (shortest first ++ shortest second))
-        × (result ≡ further at (length (shortest first ++ shortest second))) }
+    ensures { Puts out.old at (shortest first ++ shortest second) out.new result }
 {
     if at < out.len() {
         if 6 <= out.len() - at {
@@ -50,23 +48,21 @@ fn put_gate(out: &mut [u8], at: usize, first: u32, second: u32) -> usize
 // Gates, two words each, after n inputs and latches, each as two deltas in their fewest bytes; the place after them.
 fn put_gates(out: &mut [u8], at: usize, n: usize, gates: &[u32]) -> usize
     requires { (2 * n + length gates.now ≤ 2097150) × InOrder n (pairs_of gates.now) }
-    ensures { (out.new ≡ put_all out.old at (gates_bytes (first_code n) (pairs_of gates.now)))
-        × (result ≡ further at (length (gates_bytes (first_code n) (pairs_of gates.now)))) }
+    ensures { Puts out.old at (gates_bytes (first_code n) (pairs_of gates.now)) out.new result }
 {
-    let g = gates.len() / 2;
     let mut code = 2 * (n + 1);
-    let mut j: usize = 0;
     let mut place = at;
-    while j < g {
+    // By index: the contract says by index how the gates are in order.
+    for j in 0..gates.len() / 2 {
         let first = gates[2 * j];
         place = put_gate(out, place, code as u32 - first, first - gates[2 * j + 1]);
         code += 2;
-        j += 1;
     }
     place
 }
 
-// The header of a circuit that passed its checks: V is computed, and J is the number of justice sets.
+// The header of a circuit that passed its checks: V is computed, and J is the number of justice sets. The writer of texts has the same: as a public function
+// it would ask of its caller that the sums fit a word.
 pub fn header_for(o: Shape, latches: usize, gates: usize, sets: usize) -> Header
     requires { (o.inputs + latches + gates ≤ limit) × (sets ≤ limit) }
     ensures { result ≡ header_with o.inputs o.counts latches gates sets }
@@ -96,10 +92,7 @@ pub fn put_file(
     roots: &[u32],
 ) -> usize
     requires { (2 * (h.inputs + length nexts.now) + length gates.now ≤ 2097150) × InOrder (h.inputs + length nexts.now) (pairs_of gates.now) }
-    ensures { (out.new ≡ put_all out.old 0 (parts_of h nexts.now resets.now sizes.now roots.now
-        (h.inputs + length nexts.now) (pairs_of gates.now)))
-        × (result ≡ further 0 (length (parts_of h nexts.now resets.now sizes.now roots.now (h.inputs + length nexts.now)
-        (pairs_of gates.now)))) }
+    ensures { Puts out.old 0 (parts_of h nexts.now resets.now sizes.now roots.now (h.inputs + length nexts.now) (pairs_of gates.now)) out.new result }
 {
     let sources = wide(h.inputs) + nexts.len();
     let after_header = sections::put_header(out, 0, b"aig", h);

@@ -1,5 +1,4 @@
 pub mod Renumbering
-pub mod Expanding
 pub mod Pins
 pub mod ExpandPins
 pub mod Theorems

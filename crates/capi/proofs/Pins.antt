@@ -8,7 +8,7 @@ use lib.ListN.{replicate}
 use Rattle.lit.specs.Code.{is_odd, variable, literal, flipped}
 use Rattle.circuit.specs.declared.CircuitRecord.{CircuitRecord}
 use Rattle.circuit.specs.declared.Refusal.TheVariants.{TooBig, Cycle}
-use Rattle.circuit.specs.declared.Answer.TheVariants.{Renumbered, Refused}
+use Rattle.std.specs.Prelude.{Ok, Err}
 use Rattle.circuit.specs.Map.{entry_image, image_in, store, code_of}
 use Rattle.circuit.specs.Walk.{first_code, next_code, folded, already, settle_as, settle_on, settle, look, through_inputs, walk, walk_all}
 use Rattle.circuit.specs.Circuit.{codes, start, walked, numbered, renumber}
@@ -261,9 +261,9 @@ pub words_pinned :
     × (first_number counts 8 (26 ∷ 27 ∷ 28 ∷ 29 ∷ []) ≡ 2) × (first_words counts 8 (26 ∷ 27 ∷ 28 ∷ 29 ∷ []) ≡ 0 ∷ 0 ∷ 0 ∷ 29 ∷ [])
     × (first_number counts 8 (26 ∷ 27 ∷ 28 ∷ []) ≡ 2) × (first_words counts 8 (26 ∷ 27 ∷ 28 ∷ []) ≡ 0 ∷ 0 ∷ 0 ∷ [])
     × (first_number counts 8 (26 ∷ 27 ∷ []) ≡ 3) × (first_words counts 8 (26 ∷ 27 ∷ []) ≡ 26 ∷ 27 ∷ [])
-    × (answer_number (Renumbered (record { made = 5; top = variable 10 })) ≡ 0)
-    × (answer_words (Renumbered (record { made = 5; top = variable 10 })) ≡ 0 ∷ 5 ∷ 10 ∷ [])
-    × (answer_number (Refused TooBig) ≡ 1) × (answer_words (Refused TooBig) ≡ 0 ∷ 0 ∷ 0 ∷ [])
-    × (answer_number (Refused (Cycle (literal 18))) ≡ 8) × (answer_words (Refused (Cycle (literal 18))) ≡ 18 ∷ 0 ∷ 0 ∷ [])
+    × (answer_number (Ok (record { made = 5; top = variable 10 })) ≡ 0)
+    × (answer_words (Ok (record { made = 5; top = variable 10 })) ≡ 0 ∷ 5 ∷ 10 ∷ [])
+    × (answer_number (Err TooBig) ≡ 1) × (answer_words (Err TooBig) ≡ 0 ∷ 0 ∷ 0 ∷ [])
+    × (answer_number (Err (Cycle (literal 18))) ≡ 8) × (answer_words (Err (Cycle (literal 18))) ≡ 18 ∷ 0 ∷ 0 ∷ [])
 unfolding misgiven first_number first_words
 words_pinned = (refl, refl, refl, refl, refl, refl, refl, refl, refl, refl, refl, refl, refl, refl, refl, refl, refl, refl)

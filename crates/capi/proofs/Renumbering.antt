@@ -1,37 +1,19 @@
--- The C entry for renumbering: how its tests come out, the record from C's words, and its ways out. Assumes nothing.
-use Prim.Native.Nat.{ℕ, ◌≤◌, ◌<◌}
+-- The C entry for renumbering: what its tests tell where nothing is refused first, and its ways out. Assumes nothing.
+use Prim.Native.Nat.{ℕ, ◌≤◌}
 use mathlib.Core.Path.{◌≡◌, refl, sym, ap, ◌∙◌}
-use mathlib.Core.Logic.{◌≢◌}
 use mathlib.Core.Bool.{Bool, true, false, cond, not, ◌||◌}
 use mathlib.Core.List.{List, [], ◌∷◌}
 use native.Mathlib.Omega.{arith}
 use lib.Dec.{eqb, ltb}
-use lib.ListN.{length, get_or}
-use borrow.Author.Tests.{ltb-false, lt-ltb, le-ltb, eq-eqb, ne_eqb}
-use Rattle.lit.specs.Code.{variable}
-use Rattle.lit.specs.declared.Lit.{Lit}
-use Rattle.lit.specs.declared.Var.{Var}
-use Rattle.circuit.specs.declared.Refusal.{Refusal}
+use lib.ListN.{length}
+use borrow.Author.Tests.{ltb-false, le-ltb}
 use Rattle.circuit.specs.declared.Refusal.TheVariants.{Misshapen}
-use Rattle.circuit.specs.declared.Summary.{Summary}
-use Rattle.circuit.specs.declared.Answer.{Answer}
-use Rattle.circuit.specs.declared.Answer.TheVariants.{Renumbered, Refused}
-use Rattle.circuit.specs.Refusals.{refusal_number, refusal_literal}
 use Rattle.circuit.specs.Outcome.{Lent, Outcome, onto, untouched, outcome}
 use Rattle.circuit.proofs.Tests.{Same, same, other, same_test}
-use Rattle.file_words.proofs.Words.{five}
-use Rattle.capi.specs.Renumber.{seen_of, record_of, misgiven, first_number, first_words, answer_number, answer_words, as_seen, renumber_seen}
+use Rattle.capi.specs.Renumber.{seen_of, misgiven, first_number, first_words, answer_number, answer_words, as_seen, renumber_seen}
 
 -- how the test of counts and flags comes out
 module _ (counts : List ℕ) (flags : ℕ) where
-  pub counts_other : length counts ≢ 5 → true ≡ misgiven counts flags
-  unfolding misgiven
-  counts_other h = let e = ne_eqb (length counts) 5 h in rw e
-
-  pub counts_five_lem : length counts ≡ 5 → ltb 7 flags ≡ misgiven counts flags
-  unfolding misgiven
-  counts_five_lem h = let e = eq-eqb (length counts) 5 h in rw e
-
   pub five_counts : misgiven counts flags ≡ false → length counts ≡ 5
   unfolding misgiven
   five_counts e = go (eqb (length counts) 5) (same_test (length counts) 5) e
@@ -39,43 +21,6 @@ module _ (counts : List ℕ) (flags : ℕ) where
       go : (b : Bool) → Same (length counts) 5 b → not b || ltb 7 flags ≡ false → length counts ≡ 5
       go b (same h) f = h
       go b (other h) f = absurd (let z : ◌≡◌ {A = ℕ} 0 1 = cc in omega arith)
-
--- the record, from what was read
-pub record_same : (l : List ℕ) (top flags : ℕ) (v : Var) → length l ≡ 5 → v ≡ variable top
-    → record {
-      top = v;
-      counts = get_or l 0 0 ∷ get_or l 1 0 ∷ get_or l 2 0 ∷ get_or l 3 0 ∷ get_or l 4 0 ∷ [];
-      trim = (record_of top l flags).trim;
-      hash = (record_of top l flags).hash;
-      fold = (record_of top l flags).fold;
-    } ≡ record_of top l flags
-record_same l top flags v h e = rw (e, five l h)
-
--- an answer as a number and three words
-pub said_made : (said : Answer) (s : Summary) (top : ℕ) (words ws : List ℕ) → said ≡ Renumbered s → top ≡ s.top.0
-    → ws ≡ onto (0 ∷ s.made ∷ top ∷ []) words → (0 ≡ answer_number said) × (ws ≡ onto (answer_words said) words)
-said_made said s top words ws e t w = (rw e, rw (e, w, t))
-
-pub said_refused : (said : Answer) (why : Refusal) (n fault : ℕ) (l : Lit) (words ws : List ℕ) → said ≡ Refused why → n ≡ refusal_number why
-    → fault ≡ l.0 → l ≡ refusal_literal why → ws ≡ onto (fault ∷ 0 ∷ 0 ∷ []) words
-    → (n ≡ answer_number said) × (ws ≡ onto (answer_words said) words)
-said_refused said why n fault l words ws e m f a w = (rw (e, m), rw (e, w, f, a))
-
--- what is refused first, by the two tests
-module _ (counts : List ℕ) (flags : ℕ) (words : List ℕ) where
-  pub first_short : length words < 3 → (3 ≡ first_number counts flags words) × (words ≡ first_words counts flags words)
-  unfolding first_number first_words
-  first_short h = let e = lt-ltb (length words) 3 h in (rw e, rw e)
-
-  module _ (h : 3 ≤ length words) where
-    pub first_misgiven : misgiven counts flags ≡ true → (ws : List ℕ) → ws ≡ onto (0 ∷ 0 ∷ 0 ∷ []) words
-        → (2 ≡ first_number counts flags words) × (ws ≡ first_words counts flags words)
-    unfolding first_number first_words
-    first_misgiven m ws w = let e = le-ltb (length words) 3 h in (rw (e, m), rw (e, m) w)
-
-    pub first-none : misgiven counts flags ≡ false → (0 ≡ first_number counts flags words) × (words ≡ first_words counts flags words)
-    unfolding first_number first_words
-    first-none m = let e = le-ltb (length words) 3 h in (rw (e, m), rw (e, m))
 
 -- where nothing is: there is room for the answer, counts and flags are taken, and the answer words stay
 pub record Taken (counts : List ℕ) (flags : ℕ) (words ws : List ℕ) : Type 0 where

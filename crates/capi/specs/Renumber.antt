@@ -1,9 +1,8 @@
 -- What the C entry for renumbering answers, and what it leaves in each lent list. Assumes nothing.
-use Rattle.std.specs.Prelude.{ℕ, ◌/◌, Bool, cond, not, ◌||◌, List, [], ◌∷◌, eqb, ltb, length}
+use Rattle.std.specs.Prelude.{ℕ, ◌/◌, Bool, cond, not, ◌||◌, List, [], ◌∷◌, eqb, ltb, length, Ok, Err}
 use Rattle.lit.specs.Code.{is_odd, variable}
 use Rattle.circuit.specs.declared.Refusal.TheVariants.{Misshapen}
-use Rattle.circuit.specs.declared.Answer.{Answer}
-use Rattle.circuit.specs.declared.Answer.TheVariants.{Renumbered, Refused}
+use Rattle.circuit.specs.Answer.{Answer}
 use Rattle.circuit.specs.declared.CircuitRecord.{CircuitRecord}
 use Rattle.circuit.specs.Refusals.{refusal_number, refusal_literal}
 use Rattle.circuit.specs.Outcome.{Lent, Outcome, onto, untouched, outcome}
@@ -54,13 +53,13 @@ first_words counts flags words = cond (ltb (length words) 3) words (cond (misgiv
 
 -- 0 for a success, document 01's number for a refusal
 abbrev pub answer_number : Answer → ℕ
-answer_number (Renumbered s) = 0
-answer_number (Refused why) = refusal_number why
+answer_number (Ok s) = 0
+answer_number (Err why) = refusal_number why
 
 -- the three answer words: the literal at fault, the gates made, the new largest variable
 abbrev pub answer_words : Answer → List ℕ
-answer_words (Renumbered s) = 0 ∷ s.made ∷ s.top.0 ∷ []
-answer_words (Refused why) = (refusal_literal why).0 ∷ 0 ∷ 0 ∷ []
+answer_words (Ok s) = 0 ∷ s.made ∷ s.top.0 ∷ []
+answer_words (Err why) = (refusal_literal why).0 ∷ 0 ∷ 0 ∷ []
 
 -- an outcome as C sees it; words past the third stay
 abbrev pub as_seen : Outcome → List ℕ → Seen

@@ -12,6 +12,8 @@ ghost use Rattle.file_words.specs.Write.{bytes_seen, write_seen};
 ghost use Rattle.capi.specs.Renumber.{seen, record_of, renumber_seen};
 ghost use Rattle.capi.specs.Expand.{lists_seen, expand_seen};
 
+use circuit::{CircuitLists, CircuitRoom};
+
 // One delta at a place: 0, with the value, low byte first, in the first eight lent bytes and the count of bytes used in the ninth; or a
 // refusal's number, and the lent bytes as they were. Fewer than nine lent bytes is refusal 3, tested first.
 #[unsafe(no_mangle)]
@@ -73,21 +75,23 @@ pub extern "C" fn imdagluz_renumber(
     if first != 0 {
         return first;
     }
-    let said = aig::renumber(
-        renumber::record_of(top, counts, flags),
+    let lists = CircuitLists {
         inputs,
         states,
         nexts,
         resets,
         gates,
         roots,
+    };
+    let room = CircuitRoom {
         map,
         next_images,
         reset_images,
         root_images,
         gates_out,
         scratch,
-    );
+    };
+    let said = aig::renumber(renumber::record_of(top, counts, flags), &lists, room);
     renumber::put_answer(said, answer)
 }
 
@@ -145,15 +149,17 @@ pub extern "C" fn imdagluz_expand(
       triples = triples.old;
     }) }
 {
-    let said = ordered::expand(
+    match ordered::expand(
         inputs as usize,
         latches as usize,
         gates,
         input_codes,
         state_codes,
         triples,
-    );
-    ordered::number(said)
+    ) {
+        Ok(()) => 0,
+        Err(why) => u32::from(why),
+    }
 }
 
 // Writes an ordered circuit as a binary AIGER file, as `binary::write` does: 0, or a refusal's number. The answer goes to the first two words of `answer`: the

@@ -3,20 +3,19 @@ ghost use Rattle.std.specs.Prelude.{◌≡◌, [], ◌∷◌, ◌≤◌, length}
 ghost use Rattle.circuit.specs.Outcome.{onto};
 ghost use Rattle.capi.specs.Renumber.{record_of, misgiven, first_number, first_words, answer_number, answer_words};
 
-use circuit::{Answer, CircuitRecord};
+use circuit::{CircuitRecord, Refusal, Summary};
 use lit::Var;
 
 // Whether there are not five counts, or the flags are over 7.
+#[tactic(auto, unfolding(crate::specs::Renumber::misgiven))]
 fn is_misgiven(counts: &[u32], flags: u32) -> bool
     ensures { result ≡ misgiven counts.now flags }
 {
-    if counts.len() != 5 {
-        return true;
-    }
-    7 < flags
+    counts.len() != 5 || 7 < flags
 }
 
 // The circuit but for its lists. The flags are trim 1, hash 2, fold 4.
+#[tactic(auto, using(file_words::proofs::Words::five), unfolding(lit::specs::Code::is_odd))]
 pub fn record_of(top: u32, counts: &[u32], flags: u32) -> CircuitRecord
     requires { length counts.now ≡ 5 }
     ensures { result ≡ record_of top counts.now flags }
@@ -35,13 +34,12 @@ fn put_words(words: &mut [u32], literal: u32, made: u32, top: u32)
     requires { 3 ≤ length words.old }
     ensures { words.new ≡ onto (literal ∷ made ∷ top ∷ []) words.old }
 {
-    words[0] = literal;
-    words[1] = made;
-    words[2] = top;
+    words[..3].copy_from_slice(&[literal, made, top]);
 }
 
 // What is refused before there is a record to check: 3 where there are fewer than three answer words, which stay; then 2 where the counts or the
 // flags can't be taken, and the answer words say nothing; else 0, and they stay.
+#[tactic(auto, unfolding(crate::specs::Renumber::first_number, crate::specs::Renumber::first_words))]
 pub fn refused_first(counts: &[u32], flags: u32, answer: &mut [u32]) -> u32
     ensures { (result ≡ first_number counts.now flags answer.old)
         × (answer.new ≡ first_words counts.now flags answer.old) }
@@ -57,17 +55,17 @@ pub fn refused_first(counts: &[u32], flags: u32, answer: &mut [u32]) -> u32
 }
 
 // The answer's number, and its three words in the lent ones.
-pub fn put_answer(said: Answer, answer: &mut [u32]) -> u32
+pub fn put_answer(said: Result<Summary, Refusal>, answer: &mut [u32]) -> u32
     requires { 3 ≤ length answer.old }
     ensures { (result ≡ answer_number said) × (answer.new ≡ onto (answer_words said) answer.old) }
 {
     match said {
-        Answer::Renumbered(summary) => {
+        Ok(summary) => {
             let top = summary.top;
             put_words(answer, 0, summary.made, top.index());
             0
         }
-        Answer::Refused(why) => {
+        Err(why) => {
             let fault = refusals::literal(why);
             put_words(answer, fault.code(), 0, 0);
             refusals::number(why)

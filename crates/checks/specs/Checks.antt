@@ -1,6 +1,5 @@
 -- Checks that answer at the first that fails. Assumes nothing.
-use Rattle.std.specs.Prelude.{ℕ, ◌+◌, ◌*◌, ◌/◌, ◌%◌, ◌≤◌, ◌≡◌, Bool, true, false, not, ◌||◌, List, eqb, ltb, length}
-use Rattle.std.proofs.Math.Option.{Option, none, some}
+use Rattle.std.specs.Prelude.{ℕ, ◌+◌, ◌*◌, ◌/◌, ◌%◌, ◌≤◌, ◌≡◌, Bool, true, false, not, ◌||◌, List, eqb, ltb, length, Option, Some, None, Result, Ok, Err}
 use Rattle.lit.specs.Code.{literal}
 use Rattle.lit.specs.declared.Lit.{Lit}
 use Rattle.circuit.specs.declared.Refusal.{Refusal}
@@ -8,30 +7,33 @@ use Rattle.circuit.specs.declared.Refusal.TheVariants.{TooBig, Misshapen, Short,
 use Rattle.circuit.specs.declared.CircuitRecord.{CircuitRecord}
 use Rattle.circuit.specs.Circuit.{codes, first_over, first_stray}
 use Rattle.circuit.specs.Outcome.{Lent, circuit_of, limit, total, too_big, misshapen, too_short}
-use Rattle.checks.specs.declared.Found.{Found}
-use Rattle.checks.specs.declared.Found.TheVariants.{Literal, Nothing}
-use Rattle.checks.specs.declared.Check.{Check}
 use Rattle.checks.specs.declared.Lengths.{Lengths}
-use Rattle.checks.specs.declared.Check.TheVariants.{Passed, Failed}
+
+-- what checks say: that all passed, or why one failed
+abbrev pub Check : Type 0
+Check = Result (Unit {0}) Refusal
+
+abbrev pub passed : Check
+passed = Ok tt
 
 -- a first offender, as the code answers it
-abbrev pub found : Option ℕ → Found
-found none = Nothing
-found (some c) = Literal (literal c)
+abbrev pub found : Option ℕ → Option Lit
+found None = None
+found (Some c) = Some (literal c)
 
 -- a check that does not hold fails; else what comes after
 abbrev pub fail_if : Bool → Refusal → Check → Check
-fail_if true why after = Failed why
+fail_if true why after = Err why
 fail_if false why after = after
 
 abbrev pub fail_at : Option ℕ → (Lit → Refusal) → Check → Check
-fail_at (some c) why after = Failed (why (literal c))
-fail_at none why after = after
+fail_at (Some c) why after = Err (why (literal c))
+fail_at None why after = after
 
 -- checks that come after others
 abbrev pub and_then : Check → Check → Check
-and_then Passed after = after
-and_then (Failed why) after = Failed why
+and_then (Ok t) after = after
+and_then (Err why) after = Err why
 
 -- check 1 of lengths: V, I, L, G or R is over the limit
 unfoldable pub over_limit : ℕ → Lengths → Bool
@@ -56,7 +58,7 @@ pub record Small (top : ℕ) (n : Lengths) : Type 0 where
 -- checks 1 to 3 in their order
 unfoldable pub sizing : CircuitRecord → Lengths → Check
 sizing circuit n =
-    fail_if (over_limit circuit.top.0 n) TooBig (fail_if (unequal circuit.counts n) Misshapen (fail_if (lacks circuit.top.0 n) Short Passed))
+    fail_if (over_limit circuit.top.0 n) TooBig (fail_if (unequal circuit.counts n) Misshapen (fail_if (lacks circuit.top.0 n) Short passed))
 
 -- the lengths of what is lent, the gates flat
 abbrev pub lengths_of : Lent → Lengths
@@ -79,7 +81,7 @@ lengths_of l =
 
 -- check 22: a reset that is not 0, 1 or its latch's own literal
 abbrev pub straying : List ℕ → List ℕ → Check
-straying states resets = fail_at (first_stray states resets) Reset Passed
+straying states resets = fail_at (first_stray states resets) Reset passed
 
 -- checks 1 to 4 in their order, and then 22
 unfoldable pub passing : Lent → Check

@@ -4,25 +4,13 @@
 ghost use Rattle.std.specs.Prelude.{◌≡◌, ◌+◌, ◌*◌};
 ghost use Rattle.circuit.specs.Outcome.{total};
 ghost use Rattle.circuit.specs.Circuit.{latch_codes, codes, first_over, first_stray};
-ghost use Rattle.checks.specs.Bare.{circuit_in};
+ghost use Rattle.circuit.specs.Passed.{lent_in};
+ghost use Rattle.checks.specs.Bare.{circuit_with};
 ghost use Rattle.checks.specs.Checks.{found, over_limit, unequal, lacks, Small, sizing, straying, passing, Shaped};
 
-use circuit::{CircuitRecord, LIMIT, Refusal};
+use circuit::{CircuitLists, CircuitRecord, CircuitRoom, LIMIT, Refusal};
 use lent::words::{counted, is_reset, wide};
 use lit::{Lit, Var};
-
-// The first literal of a list that a check does not let by.
-#[derive(Clone, Copy)]
-pub enum Found {
-    Literal(Lit),
-    Nothing,
-}
-
-#[derive(Clone, Copy)]
-pub enum Check {
-    Passed,
-    Failed(Refusal),
-}
 
 // How long each list is: of the gates, how many there are and how many words are left over.
 #[derive(Clone, Copy)]
@@ -43,22 +31,11 @@ pub struct Lengths {
 }
 
 // Check 1.
+#[tactic(auto, unfolding(crate::specs::Checks::over_limit))]
 fn too_big(top: usize, n: Lengths) -> bool
     ensures { result ≡ over_limit top n }
 {
-    if LIMIT < top {
-        return true;
-    }
-    if LIMIT < n.inputs {
-        return true;
-    }
-    if LIMIT < n.states {
-        return true;
-    }
-    if LIMIT < n.gates {
-        return true;
-    }
-    LIMIT < n.roots
+    LIMIT < top || LIMIT < n.inputs || LIMIT < n.states || LIMIT < n.gates || LIMIT < n.roots
 }
 
 // The sum of the five counts.
@@ -70,223 +47,132 @@ pub fn sum(counts: [u32; 5]) -> usize
 }
 
 // Check 2.
+#[tactic(auto, unfolding(crate::specs::Checks::unequal))]
 fn is_misshapen(counts: [u32; 5], n: Lengths) -> bool
     ensures { result ≡ unequal counts n }
 {
-    if sum(counts) != n.roots {
-        return true;
-    }
-    if n.states != n.nexts {
-        return true;
-    }
-    if n.states != n.resets {
-        return true;
-    }
-    n.left_over != 0
+    sum(counts) != n.roots || n.states != n.nexts || n.states != n.resets || n.left_over != 0
 }
 
 // Check 3, where check 1 has passed.
+#[tactic(auto, unfolding(crate::specs::Checks::lacks))]
 fn is_short(top: usize, n: Lengths) -> bool
     requires { Small top n }
     ensures { result ≡ lacks top n }
 {
-    if n.map < top + 1 {
-        return true;
-    }
-    if n.next_images < n.states {
-        return true;
-    }
-    if n.reset_images < n.states {
-        return true;
-    }
-    if n.root_images < n.roots {
-        return true;
-    }
-    if n.gates_out < 2 * n.gates {
-        return true;
-    }
-    n.scratch < 3 * top + 3 + 3 * n.gates
+    n.map < top + 1
+        || n.next_images < n.states
+        || n.reset_images < n.states
+        || n.root_images < n.roots
+        || n.gates_out < 2 * n.gates
+        || n.scratch < 3 * top + 3 + 3 * n.gates
 }
 
 // Checks 1 to 3, which ask for lengths alone.
-pub fn sized(circuit: CircuitRecord, n: Lengths) -> Check
+#[tactic(auto, unfolding(crate::specs::Checks::sizing, crate::specs::Checks::over_limit))]
+pub fn sized(circuit: CircuitRecord, n: Lengths) -> Result<(), Refusal>
     ensures { result ≡ sizing circuit n }
 {
     let top = circuit.top;
     let v = wide(top.index());
     if too_big(v, n) {
-        return Check::Failed(Refusal::TooBig);
+        return Err(Refusal::TooBig);
     }
     let counts = circuit.counts;
     if is_misshapen(counts, n) {
-        return Check::Failed(Refusal::Misshapen);
+        return Err(Refusal::Misshapen);
     }
     if is_short(v, n) {
-        return Check::Failed(Refusal::Short);
+        return Err(Refusal::Short);
     }
-    Check::Passed
+    Ok(())
 }
 
 // The first code of a list that is over the bound.
-pub fn over_in(codes: &[u32], bound: usize) -> Found
+pub fn over_in(codes: &[u32], bound: usize) -> Option<Lit>
     ensures { result ≡ found (first_over bound codes.now) }
 {
-    let mut i = 0;
-    while i < codes.len() {
-        let code = codes[i];
+    for &code in codes {
         if bound < wide(code) {
-            return Found::Literal(Lit::from_code(code));
+            return Some(Lit::from_code(code));
         }
-        i += 1;
     }
-    Found::Nothing
+    None
 }
 
 // The same of latches, each by its state, its next literal and its reset; a latch without one of them is not looked at.
-pub fn over_in_latches(states: &[u32], nexts: &[u32], resets: &[u32], bound: usize) -> Found
+pub fn over_in_latches(states: &[u32], nexts: &[u32], resets: &[u32], bound: usize) -> Option<Lit>
     ensures { result ≡ found (first_over bound (latch_codes states.now nexts.now resets.now)) }
 {
-    let mut i = 0;
-    while i < states.len() {
-        if nexts.len() <= i {
-            return Found::Nothing;
+    for ((&state, &next), &reset) in states.iter().zip(nexts).zip(resets) {
+        if let Some(lit) = over_in(&[state, next, reset], bound) {
+            return Some(lit);
         }
-        if resets.len() <= i {
-            return Found::Nothing;
-        }
-        let state = states[i];
-        if bound < wide(state) {
-            return Found::Literal(Lit::from_code(state));
-        }
-        let next = nexts[i];
-        if bound < wide(next) {
-            return Found::Literal(Lit::from_code(next));
-        }
-        let reset = resets[i];
-        if bound < wide(reset) {
-            return Found::Literal(Lit::from_code(reset));
-        }
-        i += 1;
     }
-    Found::Nothing
+    None
 }
 
 // The first reset that is not 0, 1 or the literal of its latch; a latch that has no reset is not looked at.
-pub fn first_stray(states: &[u32], resets: &[u32]) -> Found
+pub fn first_stray(states: &[u32], resets: &[u32]) -> Option<Lit>
     ensures { result ≡ found (first_stray states.now resets.now) }
 {
-    let mut i = 0;
-    while i < states.len() {
-        if resets.len() <= i {
-            return Found::Nothing;
+    for (&state, &reset) in states.iter().zip(resets) {
+        if !is_reset(state, reset) {
+            return Some(Lit::from_code(reset));
         }
-        let start = resets[i];
-        if !is_reset(states[i], start) {
-            return Found::Literal(Lit::from_code(start));
-        }
-        i += 1;
     }
-    Found::Nothing
+    None
 }
 
 // Check 22.
-fn resets_checked(states: &[u32], resets: &[u32]) -> Check
+fn resets_checked(states: &[u32], resets: &[u32]) -> Result<(), Refusal>
     ensures { result ≡ straying states.now resets.now }
 {
     match first_stray(states, resets) {
-        Found::Literal(lit) => Check::Failed(Refusal::Reset(lit)),
-        Found::Nothing => Check::Passed,
+        Some(lit) => Err(Refusal::Reset(lit)),
+        None => Ok(()),
     }
 }
 
 // The first code over 2V + 1: inputs, gates (output, first, second), latches (state, next, reset), roots.
-fn over(
-    circuit: CircuitRecord,
-    inputs: &[u32],
-    states: &[u32],
-    nexts: &[u32],
-    resets: &[u32],
-    gates: &[u32],
-    roots: &[u32],
-) -> Found
-    requires { Shaped states.now nexts.now resets.now gates.now }
-    ensures { result ≡ found (first_over (2 * circuit.top.0 + 1)
-        (codes (circuit_in circuit inputs.now states.now nexts.now resets.now gates.now
-        roots.now))) }
+fn over(circuit: CircuitRecord, lists: &CircuitLists) -> Option<Lit>
+    requires { Shaped lists.now.states.now lists.now.nexts.now lists.now.resets.now lists.now.gates.now }
+    ensures { result ≡ found (first_over (2 * circuit.top.0 + 1) (codes (circuit_with circuit lists.now))) }
 {
     let top = circuit.top;
     let bound = 2 * wide(top.index()) + 1;
-    let first = over_in(inputs, bound);
-    if let Found::Literal(_) = first {
-        return first;
-    }
-    let first = over_in(gates, bound);
-    if let Found::Literal(_) = first {
-        return first;
-    }
-    let first = over_in_latches(states, nexts, resets, bound);
-    if let Found::Literal(_) = first {
-        return first;
-    }
-    over_in(roots, bound)
+    over_in(lists.inputs, bound)
+        .or_else(|| over_in(lists.gates, bound))
+        .or_else(|| over_in_latches(lists.states, lists.nexts, lists.resets, bound))
+        .or_else(|| over_in(lists.roots, bound))
 }
 
 // Checks 1 to 4, and then 22.
 pub fn checked(
     circuit: CircuitRecord,
-    inputs: &[u32],
-    states: &[u32],
-    nexts: &[u32],
-    resets: &[u32],
-    gates: &[u32],
-    roots: &[u32],
-    map: &[u32],
-    next_images: &[u32],
-    reset_images: &[u32],
-    root_images: &[u32],
-    gates_out: &[u32],
-    scratch: &[u32],
-) -> Check
-    ensures { result ≡ passing (record {
-      circuit = circuit;
-      inputs = inputs.now;
-      states = states.now;
-      nexts = nexts.now;
-      resets = resets.now;
-      gates = gates.now;
-      roots = roots.now;
-      map = map.now;
-      next_images = next_images.now;
-      reset_images = reset_images.now;
-      root_images = root_images.now;
-      gates_out = gates_out.now;
-      scratch = scratch.now;
-    }) }
+    lists: &CircuitLists,
+    room: &CircuitRoom,
+) -> Result<(), Refusal>
+    ensures { result ≡ passing (lent_in circuit lists.now room.now) }
 {
     let n = Lengths {
-        inputs: inputs.len(),
-        states: states.len(),
-        nexts: nexts.len(),
-        resets: resets.len(),
-        gates: gates.len() / 3,
-        left_over: gates.len() % 3,
-        roots: roots.len(),
-        map: map.len(),
-        next_images: next_images.len(),
-        reset_images: reset_images.len(),
-        root_images: root_images.len(),
-        gates_out: gates_out.len(),
-        scratch: scratch.len(),
+        inputs: lists.inputs.len(),
+        states: lists.states.len(),
+        nexts: lists.nexts.len(),
+        resets: lists.resets.len(),
+        gates: lists.gates.len() / 3,
+        left_over: lists.gates.len() % 3,
+        roots: lists.roots.len(),
+        map: room.map.len(),
+        next_images: room.next_images.len(),
+        reset_images: room.reset_images.len(),
+        root_images: room.root_images.len(),
+        gates_out: room.gates_out.len(),
+        scratch: room.scratch.len(),
     };
-    let sizes = sized(circuit, n);
-    match sizes {
-        Check::Failed(why) => Check::Failed(why),
-        Check::Passed => {
-            let first = over(circuit, inputs, states, nexts, resets, gates, roots);
-            match first {
-                Found::Literal(lit) => Check::Failed(Refusal::Over(lit)),
-                Found::Nothing => resets_checked(states, resets),
-            }
-        }
+    sized(circuit, n)?;
+    if let Some(lit) = over(circuit, lists) {
+        return Err(Refusal::Over(lit));
     }
+    resets_checked(lists.states, lists.resets)
 }

@@ -1,9 +1,9 @@
 -- Resets that are carried over: as many as there were, each in its place with the first value that it had, and resets again. Assumes nothing.
+use Rattle.std.specs.Prelude.{Some, None}
 use Prim.Native.Nat.{ℕ, zero, suc, ◌+◌, ◌*◌, ◌<◌, ◌≤◌}
 use mathlib.Core.Path.{◌≡◌, refl, ◌∙◌, ap, subst⁻¹}
 use mathlib.Core.Logic.{inl, inr}
 use mathlib.Core.Bool.{Bool, true, false, cond}
-use mathlib.Core.Option.{none, some}
 use mathlib.Core.List.{List, [], ◌∷◌}
 use native.Mathlib.Omega.{arith}
 use lib.Dec.{eqb, leb}
@@ -41,10 +41,10 @@ carried_reset own r = go (leb r 1) (le_test r 1)
 pub carried_first : (own r : ℕ) → 1 < own → first_value (carried own r) ≡ first_value r
 carried_first own r h = go (leb r 1) (le_test r 1)
   where
-    free : (x : ℕ) → 1 < x → first_value x ≡ none
+    free : (x : ℕ) → 1 < x → first_value x ≡ None
     free x k = both (eqb x 0) (same_test x 0) (eqb x 1) (same_test x 1)
       where
-        both : (b : Bool) → Same x 0 b → (c : Bool) → Same x 1 c → cond b (some false) (cond c (some true) none) ≡ none
+        both : (b : Bool) → Same x 0 b → (c : Bool) → Same x 1 c → cond b (Some false) (cond c (Some true) None) ≡ None
         both true (same e) c s = absurd (omega arith)
         both false (other n) true (same e) = absurd (omega arith)
         both false (other n) false (other m) = refl

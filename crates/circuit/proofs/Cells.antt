@@ -1,10 +1,10 @@
 -- Every lent cell after a success: the map's cells are the walk's, next and root images are read off them, and each pair of words is a gate that the walk made
 -- for an old gate. Assumes nothing.
+use Rattle.std.specs.Prelude.{Option, Some, None}
 use Prim.Native.Nat.{ℕ, zero, suc, ◌+◌, ◌*◌, ◌-◌, ◌<◌, ◌≤◌, min, max}
 use mathlib.Core.Path.{◌≡◌, refl, sym, ◌∙◌, ap, ap₂, subst, subst⁻¹}
 use mathlib.Core.Logic.{◌⊎◌, inl, inr, ◌≢◌, ◌↔◌}
 use mathlib.Core.Bool.{Bool, true, false}
-use mathlib.Core.Option.{Option, none, some}
 use mathlib.Core.List.{List, [], ◌∷◌, ◌++◌}
 use native.Mathlib.Omega.{arith}
 use lib.Dec.{eqb}
@@ -101,27 +101,27 @@ module _ (l : Lent) (w : Work) (e : conclusion l ≡ reached w) where
       subst (RowIf C.fold (larger_after (outcome l) g) (smaller_after (outcome l) g)) (ap₂ (folded_if C.fold) (larger_is g b) (smaller_is g b))
       (row_if C.fold (larger_after (outcome l) g) (smaller_after (outcome l) g))
 
-  taken : (g : Gate) → BothMapped w.images g → (t : ℕ) → folded_if C.fold (larger_in w.images g) (smaller_in w.images g) ≡ some t
+  taken : (g : Gate) → BothMapped w.images g → (t : ℕ) → folded_if C.fold (larger_in w.images g) (smaller_in w.images g) ≡ Some t
       → Taken l (outcome l) g t
   taken g b t = go (folded_if C.fold (larger_in w.images g) (smaller_in w.images g)) (row_after g b)
     where
-      go : (o : Option ℕ) → RowIf C.fold (larger_after (outcome l) g) (smaller_after (outcome l) g) o → o ≡ some t → Taken l (outcome l) g t
-      go (some s) (takes_if s' on f) k = let q : s ≡ t = cc in (on, subst (Folds (larger_after (outcome l) g) (smaller_after (outcome l) g)) q f)
-      go none (leaves_if n) k = absurd (let z : ◌≡◌ {A = ℕ} 0 1 = cc in omega arith)
+      go : (o : Option ℕ) → RowIf C.fold (larger_after (outcome l) g) (smaller_after (outcome l) g) o → o ≡ Some t → Taken l (outcome l) g t
+      go (Some s) (takes_if s' on f) k = let q : s ≡ t = cc in (on, subst (Folds (larger_after (outcome l) g) (smaller_after (outcome l) g)) q f)
+      go None (leaves_if n) k = absurd (let z : ◌≡◌ {A = ℕ} 0 1 = cc in omega arith)
 
   untaken : (g : Gate) → BothMapped w.images g → Unfolded (net C) w.images g → Untaken l (outcome l) g
   untaken g b = go (folded_if C.fold (larger_in w.images g) (smaller_in w.images g)) (row_after g b)
     where
-      go : (o : Option ℕ) → RowIf C.fold (larger_after (outcome l) g) (smaller_after (outcome l) g) o → o ≡ none → Untaken l (outcome l) g
-      go none (leaves_if n) k = λ t h. n t h.0 h.1
-      go (some s) r k = absurd (let z : ◌≡◌ {A = ℕ} 0 1 = cc in omega arith)
+      go : (o : Option ℕ) → RowIf C.fold (larger_after (outcome l) g) (smaller_after (outcome l) g) o → o ≡ None → Untaken l (outcome l) g
+      go None (leaves_if n) k = λ t h. n t h.0 h.1
+      go (Some s) r k = absurd (let z : ◌≡◌ {A = ℕ} 0 1 = cc in omega arith)
 
   unfolded : (g : Gate) → BothMapped w.images g → Untaken l (outcome l) g → Unfolded (net C) w.images g
   unfolded g b u = go (folded_if C.fold (larger_in w.images g) (smaller_in w.images g)) (row_after g b)
     where
-      go : (o : Option ℕ) → RowIf C.fold (larger_after (outcome l) g) (smaller_after (outcome l) g) o → o ≡ none
-      go none r = refl
-      go (some s) (takes_if s' on f) = absurd (u s (on, f))
+      go : (o : Option ℕ) → RowIf C.fold (larger_after (outcome l) g) (smaller_after (outcome l) g) o → o ≡ None
+      go None r = refl
+      go (Some s) (takes_if s' on f) = absurd (u s (on, f))
 
   -- the words of the gates
   rest : List ℕ

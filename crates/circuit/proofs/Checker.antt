@@ -1,10 +1,10 @@
 -- A map that keeps the local rule (`Rule`) keeps every value, whoever made it (`keeps`). By induction on what a literal means. Assumes nothing.
 -- For document 02's Q-12, the check of a renumbering that somebody else made. No statement of the base stands on it.
+use Rattle.std.specs.Prelude.{Option, Some, None}
 use Prim.Native.Nat.{ℕ, ◌+◌, ◌*◌, ◌<◌, ◌≤◌, min, max}
 use mathlib.Core.Path.{◌≡◌, refl, sym, ◌∙◌, ap, ap₂, subst}
 use mathlib.Core.Logic.{◌⊎◌, inl, inr, ◌≢◌}
 use mathlib.Core.Bool.{Bool, true, false, cond, ◌&&◌, ◌||◌}
-use mathlib.Core.Option.{Option, none, some}
 use mathlib.Core.List.{List}
 use native.Mathlib.Omega.{arith}
 use lib.Dec.{eqb}
@@ -23,7 +23,7 @@ use Rattle.circuit.specs.Invariant.{like, Reads, by_constant, by_source, by_gate
 -- the images a and b of a gate's inputs make t: a gate of the list, or a folding row
 abbrev pub Made : Net → List Pair → ℕ → ℕ → ℕ → Type 0
 Made N made hi lo t =
-    (folded hi lo ≡ some t)
+    (folded hi lo ≡ Some t)
     ⊎ ((j : ℕ) × (j < length made) × (t ≡ first_code (source_count N) + 2 * j) × ((get_or made j no_pair).larger ≡ hi) × ((get_or made j no_pair).smaller ≡ lo))
 
 -- the local rule
@@ -74,8 +74,8 @@ module _ (N : Net) (m : List ℕ) (made : List Pair) (r : Rule N m made) (order 
   and_self false = refl
 
   abbrev Folds : ℕ → ℕ → Option ℕ → Type 0
-  Folds hi lo none = Unit {0}
-  Folds hi lo (some t) = bit t ≡ bit hi && bit lo
+  Folds hi lo None = Unit {0}
+  Folds hi lo (Some t) = bit t ≡ bit hi && bit lo
 
   fold_bits : (hi lo : ℕ) → Folds hi lo (folded hi lo)
   unfolding folded
@@ -83,7 +83,7 @@ module _ (N : Net) (m : List ℕ) (made : List Pair) (r : Rule N m made) (order 
       go (eqb hi 0) (same_test hi 0) (eqb lo 0) (same_test lo 0) (eqb hi 1) (same_test hi 1) (eqb hi lo) (same_test hi lo) (eqb lo 1) (same_test lo 1)
     where
       go : (a : Bool) → Same hi 0 a → (b : Bool) → Same lo 0 b → (c : Bool) → Same hi 1 c → (d : Bool) → Same hi lo d → (e : Bool) → Same lo 1 e
-          → Folds hi lo (cond (a || b) (some 0) (cond (c || d) (some lo) (cond e (some hi) none)))
+          → Folds hi lo (cond (a || b) (Some 0) (cond (c || d) (Some lo) (cond e (Some hi) None)))
       go true (same h) b s₂ c s₃ d s₄ e s₅ = rw (h, val-zero (source_count N) given made)
       go false s₁ true (same h) c s₃ d s₄ e s₅ = rw (h, val-zero (source_count N) given made) (sym (and-false (bit hi)))
       go false s₁ false s₂ true (same h) d s₄ e s₅ = rw (h, val-one (source_count N) given made)

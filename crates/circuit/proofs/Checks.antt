@@ -1,9 +1,9 @@
 -- What checks 4, 22, 5 and 6 say: each names the first offender of its list, and finds none exactly where there is none. Assumes nothing.
+use Rattle.std.specs.Prelude.{Option, Some, None}
 use Prim.Native.Nat.{ℕ, zero, suc, ◌<◌, ◌≤◌}
 use mathlib.Core.Path.{◌≡◌, refl, sym, ◌∙◌, ap, subst, subst⁻¹}
 use mathlib.Core.Logic.{◌⊎◌, inl, inr, ◌↔◌}
 use mathlib.Core.Bool.{Bool, true, false, cond, ◌||◌}
-use mathlib.Core.Option.{Option, none, some}
 use mathlib.Core.List.{List, [], ◌∷◌, ◌++◌, map}
 use native.Mathlib.Omega.{arith}
 use borrow.Author.Tests.{le-leb}
@@ -17,8 +17,8 @@ use Rattle.circuit.proofs.Tests.{AtMost, at_most, above, le_test, Same, same, ot
 use Rattle.circuit.proofs.Lists.{In-left, In-right, In-cases, Distinct-left, Distinct-right, Distinct-apart, Distinct-join, Elem, inside, outside, elem_test}
 
 pub data Over (bound : ℕ) (cs : List ℕ) : Option ℕ → Type 0 where
-  no_over : ((c : ℕ) → In c cs → c ≤ bound) → Over bound cs none
-  one_over : (c : ℕ) → FirstOver bound cs c → Over bound cs (some c)
+  no_over : ((c : ℕ) → In c cs → c ≤ bound) → Over bound cs None
+  one_over : (c : ℕ) → FirstOver bound cs c → Over bound cs (Some c)
 
 pub over_test : (bound : ℕ) (cs : List ℕ) → Over bound cs (first_over bound cs)
 over_test bound [] = no_over (λ c h. absurd h)
@@ -28,7 +28,7 @@ over_test bound (c ∷ cs) = go (leb c bound) (le_test c bound) (first_over boun
     all h l f x (inl e) = omega arith
     all h l f x (inr k) = f x k
 
-    go : (b : Bool) → AtMost c bound b → (o : Option ℕ) → Over bound cs o → Over bound (c ∷ cs) (cond b o (some c))
+    go : (b : Bool) → AtMost c bound b → (o : Option ℕ) → Over bound cs o → Over bound (c ∷ cs) (cond b o (Some c))
     go true (at_most h) o (no_over f) = no_over (all h cs f)
     go true (at_most h) o (one_over c' k) =
         one_over c'
@@ -42,7 +42,7 @@ over_test bound (c ∷ cs) = go (leb c bound) (le_test c bound) (first_over boun
     go false (above h) o v = one_over c (record { before = []; after = cs; splits = refl; is_over = h; within = λ x k. absurd k })
 
 -- where no code is over the bound, check 4 finds none
-pub none_over : (bound : ℕ) (cs : List ℕ) → AllWithin bound cs → first_over bound cs ≡ none
+pub none_over : (bound : ℕ) (cs : List ℕ) → AllWithin bound cs → first_over bound cs ≡ None
 none_over bound [] w = refl
 none_over bound (c ∷ cs) w = rw (le-leb c bound (w c (inl refl))) (none_over bound cs (λ x i. w x (inr i)))
 
@@ -92,8 +92,8 @@ is_stray_lem own r = (to (is_reset own r) (reset_test own r), from (is_reset own
     from b (is_none n) k = refl
 
 pub data Stray (ss rs : List ℕ) : Option ℕ → Type 0 where
-  none_stray : AllReset ss rs → Stray ss rs none
-  one_stray : (r : ℕ) → FirstStray ss rs r → Stray ss rs (some r)
+  none_stray : AllReset ss rs → Stray ss rs None
+  one_stray : (r : ℕ) → FirstStray ss rs r → Stray ss rs (Some r)
 
 -- where a latch has no reset in the list, it counts as 0
 pub stray_test : (ss rs : List ℕ) → Stray ss rs (first_stray ss rs)
@@ -110,7 +110,7 @@ stray_test (s ∷ ss) (r ∷ rs) = go (is_reset s r) (reset_test s r) (first_str
     before h n f zero k = h
     before h n f (suc j) k = f j (omega arith)
 
-    go : (b : Bool) → ResetIs s r b → (o : Option ℕ) → Stray ss rs o → Stray (s ∷ ss) (r ∷ rs) (cond b o (some r))
+    go : (b : Bool) → ResetIs s r b → (o : Option ℕ) → Stray ss rs o → Stray (s ∷ ss) (r ∷ rs) (cond b o (Some r))
     go true (is_one h) o (none_stray f) = none_stray (first h f)
     go true (is_one h) o (one_stray x k) =
         one_stray x
@@ -129,10 +129,10 @@ pub no_stray : (ss rs : List ℕ) (r : ℕ) → FirstStray ss rs r → AllReset 
 no_stray ss rs r k f = k.is_stray (subst⁻¹ (IsReset (get_or ss k.place 0)) k.is_there (f k.place k.inside))
 
 -- and check 22 finds none
-pub none_stray_lem : (ss rs : List ℕ) → AllReset ss rs → first_stray ss rs ≡ none
+pub none_stray_lem : (ss rs : List ℕ) → AllReset ss rs → first_stray ss rs ≡ None
 none_stray_lem ss rs f = go (first_stray ss rs) (stray_test ss rs)
   where
-    go : (o : Option ℕ) → Stray ss rs o → o ≡ none
+    go : (o : Option ℕ) → Stray ss rs o → o ≡ None
     go o (none_stray g) = refl
     go o (one_stray r k) = absurd (no_stray ss rs r k f)
 
@@ -146,14 +146,14 @@ same_place i j f g = cases (lt_or i j) (lt_or j i)
     cases (inr h) (inr r) = omega arith
 
 -- the first that is none is the one that check 22 names
-pub is_first_stray : (ss rs : List ℕ) (r : ℕ) → FirstStray ss rs r → first_stray ss rs ≡ some r
+pub is_first_stray : (ss rs : List ℕ) (r : ℕ) → FirstStray ss rs r → first_stray ss rs ≡ Some r
 is_first_stray ss rs r k = go (first_stray ss rs) (stray_test ss rs)
   where
-    go : (o : Option ℕ) → Stray ss rs o → o ≡ some r
+    go : (o : Option ℕ) → Stray ss rs o → o ≡ Some r
     go o (none_stray f) = absurd (no_stray ss rs r k f)
     go o (one_stray r' k') =
         let e = same_place k'.place k.place (λ h. stray_at_lem k' (k.before k'.place h)) (λ h. stray_at_lem k (k'.before k.place h)) in
-        ap some (k'.is_there ∙ ap (λ (j : ℕ). get_or rs j 0) e ∙ sym k.is_there)
+        ap Some (k'.is_there ∙ ap (λ (j : ℕ). get_or rs j 0) e ∙ sym k.is_there)
       where
         stray_at_lem : {x : ℕ} (m : FirstStray ss rs x) → IsReset (get_or ss m.place 0) (get_or rs m.place 0) → ⊥
         stray_at_lem m h = m.is_stray (subst⁻¹ (IsReset (get_or ss m.place 0)) m.is_there h)
@@ -162,8 +162,8 @@ abbrev pub Apart : List ℕ → List ℕ → Type 0
 Apart s t = (v : ℕ) → In v s → In v t → ⊥
 
 pub data Again (seen ds : List ℕ) : Option ℕ → Type 0 where
-  once : Distinct (map var ds) → Apart (map var ds) seen → Again seen ds none
-  again : (d : ℕ) → FirstAgain seen ds d → Again seen ds (some d)
+  once : Distinct (map var ds) → Apart (map var ds) seen → Again seen ds None
+  again : (d : ℕ) → FirstAgain seen ds d → Again seen ds (Some d)
 
 pub again_test : (seen ds : List ℕ) → Again seen ds (first_again seen ds)
 again_test seen [] = once tt (λ v h k. h)
@@ -181,7 +181,7 @@ again_test seen (d ∷ ds) = go (elem (var d) seen) (elem_test (var d) seen) (fi
         cases (inl k) = In-left x seen (var d ∷ l) k
         cases (inr k) = In-right x seen (var d ∷ l) (inr k)
 
-    go : (b : Bool) → Elem (var d) seen b → (o : Option ℕ) → Again (var d ∷ seen) ds o → Again seen (d ∷ ds) (cond b (some d) o)
+    go : (b : Bool) → Elem (var d) seen b → (o : Option ℕ) → Again (var d ∷ seen) ds o → Again seen (d ∷ ds) (cond b (Some d) o)
     go true (inside h) o v =
         again d (record { before = []; after = ds; splits = refl; is_again = In-left (var d) seen [] h; distinct = tt; new = λ x k. absurd k })
     go false (outside f) o (once dd n) = once (λ h. n (var d) h (inl refl), dd) (apart f ds n)
@@ -216,10 +216,10 @@ no_again seen ds d k dd n = go (In-cases (var d) seen (map var k.before) k.is_ag
     go (inr h) = Distinct-apart (map var k.before) (var d ∷ map var k.after) (subst Distinct vars dd) (var d) h (inl refl)
 
 -- and checks 5 and 6 find none
-pub none_again : (seen ds : List ℕ) → Distinct (map var ds) → Apart (map var ds) seen → first_again seen ds ≡ none
+pub none_again : (seen ds : List ℕ) → Distinct (map var ds) → Apart (map var ds) seen → first_again seen ds ≡ None
 none_again seen ds dd n = go (first_again seen ds) (again_test seen ds)
   where
-    go : (o : Option ℕ) → Again seen ds o → o ≡ none
+    go : (o : Option ℕ) → Again seen ds o → o ≡ None
     go o (once d' n') = refl
     go o (again d k) = absurd (no_again seen ds d k dd n)
 

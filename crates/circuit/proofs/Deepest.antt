@@ -1,11 +1,11 @@
 -- Two entries a gate are needed. The gates of the variables 1 to n have each the next for their first input, and that of n + 1 its own negation; the walk of
 -- 2 enters 2, 4, .., 2n + 2, and then 2n + 3 again and again. The middle entry is one of the first n + 1 as long as there are fewer than 2n + 2, so it is
 -- another literal, and nothing is refused before 2n + 2 entries are on the path. Assumes nothing.
+use Rattle.std.specs.Prelude.{Some, None}
 use Prim.Native.Nat.{ℕ, zero, suc, ◌+◌, ◌*◌, ◌-◌, ◌/◌, ◌<◌, ◌≤◌, min}
 use mathlib.Core.Path.{◌≡◌, refl, sym, ◌∙◌, ap, ap₂, subst, subst⁻¹}
 use mathlib.Core.Logic.{◌⊎◌, inl, inr, ◌≢◌}
 use mathlib.Core.Bool.{Bool, true, false, cond}
-use mathlib.Core.Option.{some}
 use mathlib.Core.List.{List, [], ◌∷◌, ◌++◌, map}
 use native.Mathlib.Omega.{arith}
 use borrow.Author.Tests.{ne_eqb}
@@ -13,7 +13,6 @@ use lib.Dec.{eqb}
 use lib.ListN.{length, get_or, replicate, length-append, length-replicate, get_or-append}
 use lib.Seq.{get_or-append_seam}
 use Rattle.lit.specs.Code.{var}
-use Rattle.circuit.specs.declared.Image.TheVariants.{Absent}
 use Rattle.circuit.specs.Graph.{In, Distinct, Gate, out_var, gate_for}
 use Rattle.circuit.specs.Map.{no_image, image_in}
 use Rattle.circuit.specs.Walk.{Net, Work, Out, reached, Look, enter, is_middle, look, and_then, through_inputs, answer, no_room, walk, walk_all, settle}
@@ -63,37 +62,37 @@ vars_distinct (suc n) v = (λ h. absurd (omega (arith, vars_from n (suc v) (2 * 
 abbrev link : ℕ → ℕ → ℕ → Gate
 link n v i = record { output = 2 * (v + i); first = 2 * (v + min (i + 1) n) + (i + 1 - n); second = 0 }
 
-find_link : (n v i : ℕ) → i ≤ n → gate_for (gates_of (links n v)) (v + i) ≡ some (link n v i)
+find_link : (n v i : ℕ) → i ≤ n → gate_for (gates_of (links n v)) (v + i) ≡ Some (link n v i)
 find_link zero v i h = go (eqb (2 * v / 2) (v + i)) (same_test (2 * v / 2) (v + i))
   where
     go : (b : Bool) → Same (2 * v / 2) (v + i) b
-        → cond b (some (record { output = 2 * v; first = 2 * v + 1; second = 0 })) (gate_for [] (v + i)) ≡ some (link 0 v i)
+        → cond b (Some (record { output = 2 * v; first = 2 * v + 1; second = 0 })) (gate_for [] (v + i)) ≡ Some (link 0 v i)
     go true (same e) =
         let a : 2 * v ≡ 2 * (v + i) = omega arith in
         let b : 2 * v + 1 ≡ 2 * (v + min (i + 1) 0) + (i + 1 - 0) = omega arith in
-        ap₂ (λ (x y : ℕ). some (record { output = x; first = y; second = 0 })) a b
+        ap₂ (λ (x y : ℕ). Some (record { output = x; first = y; second = 0 })) a b
     go false (other n) = absurd (n (omega arith))
 find_link (suc n) v zero h = go (eqb (2 * v / 2) (v + 0)) (same_test (2 * v / 2) (v + 0))
   where
     go : (b : Bool) → Same (2 * v / 2) (v + 0) b
-        → cond b (some (record { output = 2 * v; first = 2 * v + 2; second = 0 })) (gate_for (gates_of (links n (suc v))) (v + 0)) ≡ some (link (suc n) v 0)
+        → cond b (Some (record { output = 2 * v; first = 2 * v + 2; second = 0 })) (gate_for (gates_of (links n (suc v))) (v + 0)) ≡ Some (link (suc n) v 0)
     go true (same e) =
         let a : 2 * v ≡ 2 * (v + 0) = omega arith in
         let b : 2 * v + 2 ≡ 2 * (v + min (0 + 1) (suc n)) + (0 + 1 - suc n) = omega arith in
-        ap₂ (λ (x y : ℕ). some (record { output = x; first = y; second = 0 })) a b
+        ap₂ (λ (x y : ℕ). Some (record { output = x; first = y; second = 0 })) a b
     go false (other n) = absurd (n (omega arith))
 find_link (suc n) v (suc i) h =
     go (eqb (2 * v / 2) (v + suc i)) (same_test (2 * v / 2) (v + suc i)) (find_link n (suc v) i (omega arith))
   where
-    go : (b : Bool) → Same (2 * v / 2) (v + suc i) b → gate_for (gates_of (links n (suc v))) (suc v + i) ≡ some (link n (suc v) i)
-        → cond b (some (record { output = 2 * v; first = 2 * v + 2; second = 0 })) (gate_for (gates_of (links n (suc v))) (v + suc i))
-        ≡ some (link (suc n) v (suc i))
+    go : (b : Bool) → Same (2 * v / 2) (v + suc i) b → gate_for (gates_of (links n (suc v))) (suc v + i) ≡ Some (link n (suc v) i)
+        → cond b (Some (record { output = 2 * v; first = 2 * v + 2; second = 0 })) (gate_for (gates_of (links n (suc v))) (v + suc i))
+        ≡ Some (link (suc n) v (suc i))
     go true (same e) r = absurd (omega arith)
     go false (other m) r =
         let z : v + suc i ≡ suc v + i = omega arith in
         let a : 2 * (suc v + i) ≡ 2 * (v + suc i) = omega arith in
         let b : 2 * (suc v + min (i + 1) n) + (i + 1 - n) ≡ 2 * (v + min (suc i + 1) (suc n)) + (suc i + 1 - suc n) = omega arith in
-        ap (gate_for (gates_of (links n (suc v)))) z ∙ r ∙ ap₂ (λ (x y : ℕ). some (record { output = x; first = y; second = 0 })) a b
+        ap (gate_for (gates_of (links n (suc v)))) z ∙ r ∙ ap₂ (λ (x y : ℕ). Some (record { output = x; first = y; second = 0 })) a b
 
 not_middle : (path : List ℕ) (c : ℕ) → get_or path (length path / 2) 0 ≢ c → is_middle path c ≡ false
 not_middle [] c n = refl
@@ -151,7 +150,7 @@ module _ (n : ℕ) where
       go (inl b) z = let y : 2 * (suc k / 2) + 2 ≡ 2 * n + 3 = z ∙ lit_high (suc k) b in omega (arith, y)
       go (inr b) z = let y : 2 * (suc k / 2) + 2 ≡ 2 * suc k + 2 = z ∙ lit_low (suc k) b in omega (arith, y)
 
-  no_images_lem : (i : ℕ) → image_in begun.images (lit i) ≡ Absent
+  no_images_lem : (i : ℕ) → image_in begun.images (lit i) ≡ None
   unfolding start
   no_images_lem i =
       no_image_lem begun.images (lit i)
@@ -162,13 +161,13 @@ module _ (n : ℕ) where
   next_lit i (inl h) j e = let a : 2 * (1 + min (j + 1) n) + (j + 1 - n) ≡ 2 * suc i + 2 = omega arith in a ∙ sym (lit_low (suc i) h)
   next_lit i (inr h) j e = let a : 2 * (1 + min (j + 1) n) + (j + 1 - n) ≡ 2 * n + 3 = omega arith in a ∙ sym (lit_high (suc i) (omega arith))
 
-  gates_found : (i : ℕ) → gate_for (gates_of (links n 1)) (var (lit i)) ≡ some (record { output = 2 * (1 + min i n); first = lit (suc i); second = 0 })
+  gates_found : (i : ℕ) → gate_for (gates_of (links n 1)) (var (lit i)) ≡ Some (record { output = 2 * (1 + min i n); first = lit (suc i); second = 0 })
   gates_found i =
       let few : min i n ≤ n = omega arith in
       let a : var (lit i) ≡ 1 + min i n = omega arith in
       let b : 2 * (1 + min (min i n + 1) n) + (min i n + 1 - n) ≡ lit (suc i) = next_lit i (lt_or i n) (min i n) refl in
       ap (gate_for (gates_of (links n 1))) a ∙ find_link n 1 (min i n) few
-      ∙ ap (λ (y : ℕ). some (record { output = 2 * (1 + min i n); first = y; second = 0 })) b
+      ∙ ap (λ (y : ℕ). Some (record { output = 2 * (1 + min i n); first = y; second = 0 })) b
 
   -- each is entered
   entered : (k : ℕ) → k < 2 * n + 2 → look N (path k) begun (lit k) ≡ enter (record { output = 2 * (1 + min k n); first = lit (suc k); second = 0 })

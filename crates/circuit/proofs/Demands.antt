@@ -8,14 +8,13 @@ pub use Rattle.circuit.proofs.Improvements.{improvements}
 pub use Rattle.circuit.proofs.Told.{told}
 pub use Rattle.circuit.proofs.Deepest.{as_deep_as_can_be}
 pub use Rattle.circuit.proofs.Resets.{resets_unseen, as_before, stray_exactly, reset_exactly, zeros-carried}
+use Rattle.std.specs.Prelude.{Some, Ok}
 use Prim.Native.Nat.{ℕ, ◌≤◌}
 use mathlib.Core.Path.{◌≡◌, sym, ◌∙◌, subst⁻¹}
 use mathlib.Core.Logic.{◌↔◌}
 use mathlib.Core.Bool.{Bool, false}
-use mathlib.Core.Option.{some}
 use lib.ListN.{length, get_or}
 use Rattle.circuit.specs.declared.Summary.{Summary}
-use Rattle.circuit.specs.declared.Answer.TheVariants.{Renumbered}
 use Rattle.circuit.specs.Graph.{In, Graph, DefinedOnce, Means}
 use Rattle.circuit.specs.Walk.{folded}
 use Rattle.circuit.specs.Circuit.{Circuit, graph, walked}
@@ -44,7 +43,7 @@ pub one_meaning : (G : Graph) → DefinedOnce G → (given : ℕ → Bool) (c : 
 one_meaning G once given c b b' p q = means_one G once given p q
 
 -- the folding rows are document 01's
-pub folding_rows : (hi lo t : ℕ) → lo ≤ hi → (folded hi lo ≡ some t) ↔ Folds hi lo t
+pub folding_rows : (hi lo t : ℕ) → lo ≤ hi → (folded hi lo ≡ Some t) ↔ Folds hi lo t
 folding_rows = rows_exactly
 
 module _ (l : Lent) where
@@ -72,7 +71,7 @@ module _ (l : Lent) where
   pub tests_exactly : Tested l ↔ Passes l
   tests_exactly = (R.passes l, R.tested l)
 
-  after-success : (s : Summary) → (outcome l).answer ≡ Renumbered s → AfterSuccess l C (outcome l) s (held l s (outcome l))
+  after-success : (s : Summary) → (outcome l).answer ≡ Ok s → AfterSuccess l C (outcome l) s (held l s (outcome l))
   after-success s e =
       let from = S.success l s e in
       let sizes = S.sizes l s e in

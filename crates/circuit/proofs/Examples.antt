@@ -1,13 +1,12 @@
 -- The other circuits of document 01, the paper's half adder, and the smallest circuits that tell the definitions from their neighbours: one theorem, by
 -- computation. Assumes nothing.
+use Rattle.std.specs.Prelude.{Some, None, Ok}
 use Prim.Native.Nat.{ℕ}
 use mathlib.Core.Path.{◌≡◌, refl}
 use mathlib.Core.Bool.{false}
 use mathlib.Core.List.{List, [], ◌∷◌, map}
 use lib.ListN.{replicate}
 use Rattle.lit.specs.Code.{literal, variable, flipped}
-use Rattle.circuit.specs.declared.Answer.TheVariants.{Renumbered}
-use Rattle.circuit.specs.declared.Image.TheVariants.{Absent, Code}
 use Rattle.circuit.specs.declared.Refusal.TheVariants.{TooBig, Misshapen, Short, Over, Reset, Again, StateAgain, Undefined, Cycle}
 use Rattle.circuit.specs.Refusals.{refusal_number, refusal_literal}
 use Rattle.circuit.specs.Map.{entry_image, image_in, image_of, store, code_of}
@@ -105,7 +104,7 @@ abbrev sizes : List Example
 sizes =
     record {
       lent = lends 3 1 1 1 2 12;
-      expected = outcome_of (Renumbered (record { made = 1; top = variable 2 })) (0 ∷ 2 ∷ 4 ∷ []) (4 ∷ []) (1 ∷ []) (5 ∷ []) (3 ∷ 2 ∷ []) (replicate 12 0);
+      expected = outcome_of (Ok (record { made = 1; top = variable 2 })) (0 ∷ 2 ∷ 4 ∷ []) (4 ∷ []) (1 ∷ []) (5 ∷ []) (3 ∷ 2 ∷ []) (replicate 12 0);
     }
     ∷ early_refusal (lends 2 1 1 1 2 12) Short
     ∷ early_refusal (lends 3 0 1 1 2 12) Short
@@ -169,8 +168,8 @@ examples = (refl, refl, refl, refl, refl)
 
 -- a code over 2V + 1, or past the map, or of a variable whose entry is the word for no image, has no image; an odd code flips the entry's low bit
 pub lookups :
-    (image_of 0 (0 ∷ 2 ∷ []) 2 ≡ Absent) × (image_of 2 (0 ∷ 2 ∷ []) 4 ≡ Absent) × (image_of 1 (0 ∷ 4294967295 ∷ []) 3 ≡ Absent)
-    × (image_of 1 (0 ∷ 5 ∷ []) 2 ≡ Code (literal 5)) × (image_of 1 (0 ∷ 5 ∷ []) 3 ≡ Code (literal 4)) × (image_of 0 (0 ∷ 2 ∷ []) 1 ≡ Code (literal 1))
+    (image_of 0 (0 ∷ 2 ∷ []) 2 ≡ None) × (image_of 2 (0 ∷ 2 ∷ []) 4 ≡ None) × (image_of 1 (0 ∷ 4294967295 ∷ []) 3 ≡ None)
+    × (image_of 1 (0 ∷ 5 ∷ []) 2 ≡ Some (literal 5)) × (image_of 1 (0 ∷ 5 ∷ []) 3 ≡ Some (literal 4)) × (image_of 0 (0 ∷ 2 ∷ []) 1 ≡ Some (literal 1))
 unfolding image_of image_in entry_image flipped
 lookups = (refl, refl, refl, refl, refl, refl)
 

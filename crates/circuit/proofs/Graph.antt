@@ -1,9 +1,9 @@
 -- Laws of a graph of gates: finding a gate, reaching, using, and that a gate is grounded where its inputs are. Assumes nothing.
+use Rattle.std.specs.Prelude.{Option, Some, None}
 use Prim.Native.Nat.{ℕ}
 use mathlib.Core.Path.{◌≡◌, refl, sym, ◌∙◌, ap, subst}
 use mathlib.Core.Logic.{inl, inr}
 use mathlib.Core.Bool.{Bool, true, false, cond}
-use mathlib.Core.Option.{Option, none, some}
 use mathlib.Core.List.{List, [], ◌∷◌, map}
 use lib.Dec.{eqb}
 use Rattle.lit.specs.Code.{var}
@@ -13,14 +13,14 @@ use Rattle.circuit.proofs.Lists.{In-left, In-right, In-map, Distinct-left, Disti
 
 -- the search for a gate, with what it says
 pub data GateFound (gs : List Gate) (v : ℕ) : Option Gate → Type 0 where
-  no_gate : ((g : Gate) → In g gs → out_var g ≡ v → ⊥) → GateFound gs v none
-  a_gate : (g : Gate) → In g gs → out_var g ≡ v → GateFound gs v (some g)
+  no_gate : ((g : Gate) → In g gs → out_var g ≡ v → ⊥) → GateFound gs v None
+  a_gate : (g : Gate) → In g gs → out_var g ≡ v → GateFound gs v (Some g)
 
 pub gate_found : (gs : List Gate) (v : ℕ) → GateFound gs v (gate_for gs v)
 gate_found [] v = no_gate (λ g h e. h)
 gate_found (g ∷ gs) v = go (eqb (out_var g) v) (same_test (out_var g) v) (gate_for gs v) (gate_found gs v)
   where
-    go : (b : Bool) → Same (out_var g) v b → (o : Option Gate) → GateFound gs v o → GateFound (g ∷ gs) v (cond b (some g) o)
+    go : (b : Bool) → Same (out_var g) v b → (o : Option Gate) → GateFound gs v o → GateFound (g ∷ gs) v (cond b (Some g) o)
     go true (same e) o r = a_gate g (inl refl) e
     go false (other n) o (no_gate f) = no_gate no_one
       where
@@ -127,9 +127,9 @@ Uses-reach (first_of g h r e) = Reach-join r (via (to_first g h refl (ap var (sy
 Uses-reach (second_of g h r e) = Reach-join r (via (to_second g h refl (ap var (sym e))) (here refl))
 
 -- the gate that a table names is the one that the search finds
-pub gate_for_of : (G : Graph) → DefinedOnce G → (g : Gate) (v : ℕ) → In g G.gates → out_var g ≡ v → gate_for G.gates v ≡ some g
+pub gate_for_of : (G : Graph) → DefinedOnce G → (g : Gate) (v : ℕ) → In g G.gates → out_var g ≡ v → gate_for G.gates v ≡ Some g
 gate_for_of G once g v h e = go (gate_for G.gates v) (gate_found G.gates v)
   where
-    go : (o : Option Gate) → GateFound G.gates v o → o ≡ some g
-    go none (no_gate n) = absurd (n g h e)
-    go (some g') (a_gate x m q) = ap some (one_gate G once g' g m h (q ∙ sym e))
+    go : (o : Option Gate) → GateFound G.gates v o → o ≡ Some g
+    go None (no_gate n) = absurd (n g h e)
+    go (Some g') (a_gate x m q) = ap Some (one_gate G once g' g m h (q ∙ sym e))

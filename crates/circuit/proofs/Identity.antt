@@ -1,5 +1,6 @@
 -- Maps in which each variable below some number goes to itself and no other has an image: one store more of a literal at itself takes the number one on, so the
 -- map at the start of an ordered circuit is such a map, and a literal below it has itself for its image. Assumes nothing.
+use Rattle.std.specs.Prelude.{Some}
 use Prim.Native.Nat.{ℕ, zero, suc, ◌+◌, ◌*◌, ◌<◌, ◌≤◌}
 use mathlib.Core.Path.{◌≡◌, refl, ◌∙◌, ap, ap₂, subst}
 use mathlib.Core.Logic.{◌⊎◌, inl, inr, ◌≢◌}
@@ -7,7 +8,6 @@ use mathlib.Core.List.{List, [], ◌∷◌}
 use native.Mathlib.Omega.{arith}
 use lib.ListN.{length, replicate, length-replicate}
 use Rattle.lit.specs.Code.{var, literal, flipped}
-use Rattle.circuit.specs.declared.Image.TheVariants.{Code}
 use Rattle.circuit.specs.Graph.{In}
 use Rattle.circuit.specs.Map.{no_image, image_in, store, code_of}
 use Rattle.circuit.specs.Circuit.{store_from, start}
@@ -69,13 +69,13 @@ start_size top n =
 
 -- a literal of a variable below k is its own image
 module _ (m : List ℕ) (k : ℕ) (few : 2 * k ≤ no_image) (i : Identity m k) where
-  pub own_image : (c : ℕ) → c < 2 * k → image_in m c ≡ Code (literal c)
+  pub own_image : (c : ℕ) → c < 2 * k → image_in m c ≡ Some (literal c)
   unfolding flipped
   own_image c h =
       let e : entry m (var c) ≡ 2 * var c = i.low (var c) (omega arith) in
       let n : entry m (var c) ≢ no_image = omega arith in
       let z : flipped (2 * var c) c ≡ c = omega arith in
-      code_image m c n ∙ ap (λ (x : ℕ). Code (literal (flipped x c))) e ∙ ap (λ (x : ℕ). Code (literal x)) z
+      code_image m c n ∙ ap (λ (x : ℕ). Some (literal (flipped x c))) e ∙ ap (λ (x : ℕ). Some (literal x)) z
 
   -- and so with a list of them
   pub own_images : (cs : List ℕ) → ((c : ℕ) → In c cs → c < 2 * k) → images_in m cs ≡ cs

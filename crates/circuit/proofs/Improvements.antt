@@ -1,9 +1,9 @@
 -- Errors that look like improvements: the walk with its habits as parameters, that with ours it is the walk, and for each improvement the smallest circuit on
 -- which it answers otherwise. Assumes nothing.
+use Rattle.std.specs.Prelude.{Option, Some, None}
 use Prim.Native.Nat.{ℕ, zero, suc, ◌+◌, min, max}
 use mathlib.Core.Path.{◌≡◌, refl, ◌∙◌, ap}
 use mathlib.Core.Bool.{Bool, cond, ◌&&◌}
-use mathlib.Core.Option.{Option, none, some}
 use mathlib.Core.List.{List, [], ◌∷◌, ◌++◌, map}
 use lib.Dec.{eqb}
 use lib.ListN.{get_or, take, drop}
@@ -24,11 +24,11 @@ pub record Habits : Type 0 where
   pub early : Net → Work → Gate → Option ℕ
 
 abbrev pub ours : Habits
-ours = record { cycle = is_middle; rows = folded; early = λ N w g. none }
+ours = record { cycle = is_middle; rows = folded; early = λ N w g. None }
 
 -- the walk of specs/Walk.antt, with these habits
 abbrev standing : Habits → Net → List Pair → ℕ → ℕ → Option ℕ
-standing h N made hi lo = or_else (cond N.fold (h.rows hi lo) none) (made_if N.hash made (first_code (source_count N)) hi lo)
+standing h N made hi lo = or_else (cond N.fold (h.rows hi lo) None) (made_if N.hash made (first_code (source_count N)) hi lo)
 
 abbrev settle_on_by : Habits → Net → Work → ℕ → ℕ → ℕ → Work
 settle_on_by h N w d x y = settle_as N w d (max x y) (min x y) (standing h N w.made (max x y) (min x y))
@@ -37,8 +37,8 @@ abbrev settle_by : Habits → Net → Work → Gate → Work
 settle_by h N w g = settle_on_by h N w g.output (code_of (image_in w.images g.first)) (code_of (image_in w.images g.second))
 
 abbrev early_or : Option ℕ → Net → Work → ℕ → Out → Out
-early_or (some t) N w d out = reached (settle_as N w d t t (some t))
-early_or none N w d out = out
+early_or (Some t) N w d out = reached (settle_as N w d t t (Some t))
+early_or None N w d out = out
 
 abbrev through_by : Habits → Net → (Work → ℕ → Out) → Gate → Work → Out
 through_by h N rec g w =
@@ -81,15 +81,15 @@ ours_walk_all N (c ∷ cs) w = then_same _ _ _ _ (ours_walk N (stack_room N) [] 
 
 -- folding x with its negation
 abbrev folds_negation : Habits
-folds_negation = record { cycle = is_middle; rows = λ hi lo. or_else (folded hi lo) (cond (eqb hi (flipped lo 1)) (some 0) none); early = λ N w g. none }
+folds_negation = record { cycle = is_middle; rows = λ hi lo. or_else (folded hi lo) (cond (eqb hi (flipped lo 1)) (Some 0) None); early = λ N w g. None }
 
 -- skipping a gate's second input once the first is 0
 abbrev skips_second : Habits
-skips_second = record { cycle = is_middle; rows = folded; early = λ N w g. cond (N.fold && eqb (code_of (image_in w.images g.first)) 0) (some 0) none }
+skips_second = record { cycle = is_middle; rows = folded; early = λ N w g. cond (N.fold && eqb (code_of (image_in w.images g.first)) 0) (Some 0) None }
 
 -- marking path gates to find a cycle sooner
 abbrev marks_path : Habits
-marks_path = record { cycle = λ path c. elem (var c) (map var path); rows = folded; early = λ N w g. none }
+marks_path = record { cycle = λ path c. elem (var c) (map var path); rows = folded; early = λ N w g. None }
 
 abbrev renumber_by : Habits → Lent → Out
 renumber_by h l = walk_all_by h (net (circuit_of l)) (walked (circuit_of l)) (start (circuit_of l).top (graph (circuit_of l)).sources)

@@ -1,10 +1,10 @@
 -- What the walk keeps true of its work, and that settling a gate keeps it: the gate's inputs have images by then, and the code found for them has
 -- the bit of their AND. Assumes nothing.
+use Rattle.std.specs.Prelude.{Option, Some, None}
 use Prim.Native.Nat.{ℕ, ◌+◌, ◌*◌, ◌<◌, ◌≤◌, min, max}
 use mathlib.Core.Path.{◌≡◌, refl, sym, ◌∙◌, ap, ap₂, subst, subst⁻¹, subst₂}
 use mathlib.Core.Logic.{◌⊎◌, inl, inr, ◌≢◌}
 use mathlib.Core.Bool.{Bool, true, false, ◌&&◌}
-use mathlib.Core.Option.{Option, none, some}
 use mathlib.Core.List.{List, ◌∷◌, map}
 use native.Mathlib.Omega.{arith}
 use lib.Dec.{eqb}
@@ -111,7 +111,7 @@ module _ (N : Net) (top : ℕ) (once : DefinedOnce N.graph) (sized : Sized N top
     smaller_old g' b = ap₂ min (code_old g'.first b.0) (code_old g'.second b.1)
 
     unfolded_old : (g' : Gate) → BothMapped m g' → Unfolded N m' g' → Unfolded N m g'
-    unfolded_old g' b u = subst₂ (λ (x y : ℕ). folded_if N.fold x y ≡ none) (larger_old g' b) (smaller_old g' b) u
+    unfolded_old g' b u = subst₂ (λ (x y : ℕ). folded_if N.fold x y ≡ None) (larger_old g' b) (smaller_old g' b) u
 
     -- a gate with an image is the one settled, or had its image before
     abbrev HadImage : Gate → Type 0
@@ -166,7 +166,7 @@ module _ (N : Net) (top : ℕ) (once : DefinedOnce N.graph) (sized : Sized N top
             (sym (code_old g₁.output k₁) ∙ e ∙ code_old g₂.output k₂)
 
     unfolded_new : (g' : Gate) → BothMapped m g' → Unfolded N m g' → Unfolded N m' g'
-    unfolded_new g' b u = subst₂ (λ (x y : ℕ). folded_if N.fold x y ≡ none) (sym (larger_old g' b)) (sym (smaller_old g' b)) u
+    unfolded_new g' b u = subst₂ (λ (x y : ℕ). folded_if N.fold x y ≡ None) (sym (larger_old g' b)) (sym (smaller_old g' b)) u
 
     words_new : (g' : Gate) → BothMapped m g' → pair (larger_in m g') (smaller_in m g') ≡ pair (larger_in m' g') (smaller_in m' g')
     words_new g' b = ap₂ pair (sym (larger_old g' b)) (sym (smaller_old g' b))
@@ -176,7 +176,7 @@ module _ (N : Net) (top : ℕ) (once : DefinedOnce N.graph) (sized : Sized N top
       where
         go : ((j < length w.made) × (get_or made' j no_pair ≡ get_or w.made j no_pair))
             ⊎ ((t ≡ first_code (source_count N) + 2 * j) × (get_or made' j no_pair ≡ pair (larger_in m g) (smaller_in m g))
-            × (folded_if N.fold (larger_in m g) (smaller_in m g) ≡ none))
+            × (folded_if N.fold (larger_in m g) (smaller_in m g) ≡ None))
             → FromGate N m' made' j
         go (inl k) =
             let f : FromGate N m w.made j = i.from j k.0 in
@@ -287,14 +287,14 @@ module _ (N : Net) (top : ℕ) (once : DefinedOnce N.graph) (sized : Sized N top
         → Already N w.made (larger_in w.images g) (smaller_in w.images g) o
         → Settled (settle_as N w g.output (larger_in w.images g) (smaller_in w.images g) o)
     unfolding settle_as
-    by_already none e (is_new f n) =
+    by_already None e (is_new f n) =
         let pl = placed_new N w.made _ _ (omega arith) larger_below i.order i.fresh e f in (
           placed_inv _ _ pl gate_grounded (p, q) gate_reads,
           placed_grown _ _ pl gate_grounded (p, q) gate_reads,
           placed_here _ _ pl gate_grounded
               (p, q) gate_reads,
         )
-    by_already (some t) e a =
+    by_already (Some t) e a =
         let pl = placed_old N w.made _ _ (omega arith) larger_below i.order i.fresh t a in (
           placed_inv _ _ pl gate_grounded (p, q) gate_reads,
           placed_grown _ _ pl gate_grounded (p, q) gate_reads,

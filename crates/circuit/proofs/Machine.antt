@@ -1,18 +1,17 @@
 -- The machine comes to what the walk comes to; each step brings it nearer to its end; and what stays true on the way: each frame's literal is a
 -- gate's, has no image yet, and the next literal is one of that gate's inputs; and there is room for the frames. The last is not seen from the frames: a
 -- machine with no room for the gate that it enters would come to the walk without room, and the walk never is (proofs/InRoom.antt). Assumes nothing.
+use Rattle.std.specs.Prelude.{Option, Some, None}
+use Rattle.lit.specs.declared.Lit.{Lit}
 use Prim.Native.Nat.{ℕ, zero, suc, ◌+◌, ◌*◌, ◌-◌, ◌<◌, ◌≤◌}
 use mathlib.Core.Path.{◌≡◌, refl, sym, ◌∙◌, ap, subst, subst⁻¹}
 use mathlib.Core.Logic.{◌⊎◌, inl, inr, ◌≢◌}
 use mathlib.Core.Bool.{Bool, true, false, cond}
-use mathlib.Core.Option.{Option, none, some}
 use mathlib.Core.List.{List, [], ◌∷◌, ◌++◌}
 use native.Mathlib.Omega.{arith}
 use lib.Dec.{eqb}
 use lib.ListN.{length}
 use Rattle.lit.specs.Code.{var, literal}
-use Rattle.circuit.specs.declared.Image.{Image}
-use Rattle.circuit.specs.declared.Image.TheVariants.{Absent, Code}
 use Rattle.circuit.specs.declared.Refusal.{Refusal}
 use Rattle.circuit.specs.declared.Refusal.TheVariants.{TooBig, Undefined}
 use Rattle.circuit.specs.Graph.{In, Gate, out_var, DefinedOnce, gate_for, Step, to_first, to_second, Reach, here, via, Grounded}
@@ -46,15 +45,15 @@ walk_at N zero path w c l e = ap (λ (x : Look). answer x w (inner N zero path w
 walk_at N (suc room) path w c l e = ap (λ (x : Look). answer x w (inner N (suc room) path w c)) (sym e)
 
 -- the gate that a look finds is the one that the search finds
-enters : (N : Net) (path : List ℕ) (w : Work) (c : ℕ) (g : Gate) → look N path w c ≡ enter g → gate_for N.graph.gates (var c) ≡ some g
+enters : (N : Net) (path : List ℕ) (w : Work) (c : ℕ) (g : Gate) → look N path w c ≡ enter g → gate_for N.graph.gates (var c) ≡ Some g
 unfolding look
 enters N path w c g e = go (image_in w.images c) (is_middle path c) (gate_for N.graph.gates (var c)) e
   where
-    go : (i : Image) (b : Bool) (o : Option Gate) → look_at c i b o ≡ enter g → o ≡ some g
-    go (Code t) b o k = cc
-    go Absent true o k = cc
-    go Absent false none k = cc
-    go Absent false (some g') k = cc
+    go : (i : Option Lit) (b : Bool) (o : Option Gate) → look_at c i b o ≡ enter g → o ≡ Some g
+    go (Some t) b o k = cc
+    go None true o k = cc
+    go None false None k = cc
+    go None false (Some g') k = cc
 
 -- what enters a gate has room for it
 pub enter_room : (N : Net) (fs : List Frame) (w : Work) (c : ℕ) (g : Gate) → look N (path_of fs) w c ≡ enter g → InRoom (comes_to_at N fs (transfer c) w)
@@ -65,10 +64,10 @@ enter_room N fs w c g e r = go (lt_or (length fs) (stack_room N))
     go : (length fs < stack_room N) ⊎ (stack_room N ≤ length fs) → length fs < stack_room N
     go (inl h) = h
     go (inr h) =
-        let none : 0 ≡ stack_room N - length fs = omega arith in
+        let None : 0 ≡ stack_room N - length fs = omega arith in
         let full : no_room ≡ comes_to_at N fs (transfer c) w
         = resume_stopped N fs TooBig ∙ ap (resume N fs) (walk_at N 0 (path_of fs) w c (enter g) e)
-        ∙ ap (λ (k : ℕ). resume N fs (walk N k (path_of fs) w c)) none in
+        ∙ ap (λ (k : ℕ). resume N fs (walk N k (path_of fs) w c)) None in
         absurd (subst⁻¹ InRoom full r refl)
 
 look_follows : (N : Net) (fs : List Frame) (w : Work) (c : ℕ) (l : Look) → look N (path_of fs) w c ≡ l → InRoom (comes_to_at N fs (transfer c) w)
@@ -89,15 +88,15 @@ look_follows N fs w c (enter g) e r =
 back_follows : (N : Net) (c : ℕ) (fs : List Frame) (w : Work) (b : Bool) (o : Option Gate) → gate_for N.graph.gates (var c) ≡ o
     → Follows N (comes_to_at N (record { lit = c; on_second = b } ∷ fs) back w) (step_back N c fs w b o)
 unfolding step_back resume
-back_follows N c fs w b none e =
+back_follows N c fs w b None e =
     resume_stopped N fs (Undefined (literal c))
     ∙ ap (λ (o : Option Gate). resume N fs (rest_with N (stack_room N - suc (length fs)) (path_of fs ++ (c ∷ [])) c w b o)) (sym e)
-back_follows N c fs w false (some g) e =
+back_follows N c fs w false (Some g) e =
     let room : ℕ = stack_room N - suc (length fs) in
     let path : List ℕ = path_of fs ++ (c ∷ []) in
     ap (λ (o : Option Gate). resume N fs (and_then (walk N room path w g.second) (λ w'. rest_with N room path c w' true o))) e
     ∙ ap (λ (o : Option Gate). resume N fs (rest_with N room path c w false o)) (sym e)
-back_follows N c fs w true (some g) e =
+back_follows N c fs w true (Some g) e =
     ap (λ (o : Option Gate). resume N fs (rest_with N (stack_room N - suc (length fs)) (path_of fs ++ (c ∷ [])) c w true o)) (sym e)
 
 at_follows : (N : Net) (fs : List Frame) (a : At) (w : Work) → InRoom (comes_to_at N fs a w) → Follows N (comes_to_at N fs a w) (step_at N fs a w)
@@ -166,12 +165,12 @@ stack_grown N w w' u f r (fr ∷ fs) c p s = (
     input true e = (e.0, λ k. e.1 (sym (r.keeps (var s.0.g.first) e.1) ∙ k))
 
 gate_for_is : (N : Net) → DefinedOnce N.graph → (g : Gate) (v : ℕ) → In g N.graph.gates → out_var g ≡ v → (g' : Gate)
-    → gate_for N.graph.gates v ≡ some g' → g ≡ g'
+    → gate_for N.graph.gates v ≡ Some g' → g ≡ g'
 gate_for_is N once g v h e g' k = go (gate_for N.graph.gates v) (gate_found N.graph.gates v) k
   where
-    go : (o : Option Gate) → GateFound N.graph.gates v o → o ≡ some g' → g ≡ g'
-    go none (no_gate n) p = absurd (n g h e)
-    go (some g'') (a_gate x m q) p = one_gate N.graph once g g'' h m (e ∙ sym q) ∙ cc
+    go : (o : Option Gate) → GateFound N.graph.gates v o → o ≡ Some g' → g ≡ g'
+    go None (no_gate n) p = absurd (n g h e)
+    go (Some g'') (a_gate x m q) p = one_gate N.graph once g g'' h m (e ∙ sym q) ∙ cc
 
 module _ (N : Net) (top : ℕ) (once : DefinedOnce N.graph) (sized : Sized N top) where
   abbrev pub Goes : Machine → Next → Type 0
@@ -209,16 +208,16 @@ module _ (N : Net) (top : ℕ) (once : DefinedOnce N.graph) (sized : Sized N top
     gate_fits = omega (arith, i.few, settled_room w.images N.graph.gates k.g k.is_gate is_open')
 
     back_runs : (b : Bool) → InRoom (comes_to_at N (record { lit = f.lit; on_second = b } ∷ fs) back w) → InputIs w b k.g c
-        → (o : Option Gate) → gate_for N.graph.gates (var f.lit) ≡ o → ((g' : Gate) → o ≡ some g' → k.g ≡ g')
+        → (o : Option Gate) → gate_for N.graph.gates (var f.lit) ≡ o → ((g' : Gate) → o ≡ Some g' → k.g ≡ g')
         → Goes (record { frames = record { lit = f.lit; on_second = b } ∷ fs; at = back; work = w }) (step_back N f.lit fs w b o)
     unfolding step_back weight
-    back_runs b r e none found u = tt
-    back_runs false r e (some g') found u =
+    back_runs b r e None found u = tt
+    back_runs false r e (Some g') found u =
         let q : k.g ≡ g' = u g' refl in (
           record {
             inv = i;
             short = h;
-            in_room = subst⁻¹ InRoom (back_follows N f.lit fs w false (some g') found) r;
+            in_room = subst⁻¹ InRoom (back_follows N f.lit fs w false (Some g') found) r;
             stack = (
               record {
                 g = k.g;
@@ -232,7 +231,7 @@ module _ (N : Net) (top : ℕ) (once : DefinedOnce N.graph) (sized : Sized N top
           },
           omega arith,
         )
-    back_runs true r e (some g') found u =
+    back_runs true r e (Some g') found u =
         let q : k.g ≡ g' = u g' refl in
         let st : Settled N top once sized w i k.g k.is_gate is_open' (settle N w k.g)
         = settle_ok N top once sized w i k.g k.is_gate is_open' e.1 (subst (λ (x : ℕ). entry w.images (var x) ≢ no_image) e.0 n) in
@@ -245,7 +244,7 @@ module _ (N : Net) (top : ℕ) (once : DefinedOnce N.graph) (sized : Sized N top
             short = omega arith;
             in_room =
                 subst⁻¹ (λ (x : Gate). InRoom (comes_to_at N fs back (settle N w x))) q
-                (subst⁻¹ InRoom (back_follows N f.lit fs w true (some g') found) r);
+                (subst⁻¹ InRoom (back_follows N f.lit fs w true (Some g') found) r);
             stack = (
               f.lit,
               stack_grown N w (settle N w k.g) (out_var k.g) (st.0.grounded (out_var k.g) st.2) st.1 fs f.lit (here (sym k.names)) s,

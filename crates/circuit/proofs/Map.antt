@@ -1,5 +1,7 @@
 -- Laws of lookups and stores in a map: an entry is what was stored last for its variable, and a lookup is the entry with the literal's sign.
 -- Assumes nothing.
+use Rattle.std.specs.Prelude.{Option, Some, None}
+use Rattle.lit.specs.declared.Lit.{Lit}
 use Prim.Native.Nat.{ℕ, zero, suc, ◌<◌}
 use mathlib.Core.Path.{◌≡◌, refl, sym, ap, subst⁻¹}
 use mathlib.Core.Logic.{◌≢◌}
@@ -10,8 +12,6 @@ use lib.Dec.{eqb}
 use lib.ListN.{length, get_or, replicate, length-set}
 use lib.Seq.{get_or-set_same, get_or-set_other}
 use Rattle.lit.specs.Code.{var, flipped, literal}
-use Rattle.circuit.specs.declared.Image.{Image}
-use Rattle.circuit.specs.declared.Image.TheVariants.{Absent, Code}
 use Rattle.circuit.specs.Map.{no_image, entry_image, image_in, store, code_of}
 use Rattle.circuit.proofs.Tests.{Same, same, other, same_test}
 use Rattle.circuit.specs.Invariant.{entry, code_in}
@@ -43,15 +43,15 @@ store_all P m d t h p f v = go (eqb v (var d)) (same_test v (var d))
     go false (other n) = subst⁻¹ (λ (z : ℕ). P v z) (entry_other m d t v n) (f v n)
 
 -- a lookup, with what it says
-pub data Looked (e c : ℕ) : Image → Type 0 where
-  gone : e ≡ no_image → Looked e c Absent
-  found : e ≢ no_image → Looked e c (Code (literal (flipped e c)))
+pub data Looked (e c : ℕ) : Option Lit → Type 0 where
+  gone : e ≡ no_image → Looked e c None
+  found : e ≢ no_image → Looked e c (Some (literal (flipped e c)))
 
 looked_entry : (e c : ℕ) → Looked e c (entry_image e c)
 unfolding entry_image
 looked_entry e c = go (eqb e no_image) (same_test e no_image)
   where
-    go : (b : Bool) → Same e no_image b → Looked e c (cond b Absent (Code (literal (flipped e c))))
+    go : (b : Bool) → Same e no_image b → Looked e c (cond b None (Some (literal (flipped e c))))
     go true (same h) = gone h
     go false (other h) = found h
 
@@ -59,27 +59,27 @@ pub looked : (m : List ℕ) (c : ℕ) → Looked (entry m (var c)) c (image_in m
 unfolding image_in
 looked m c = looked_entry (get_or m (var c) no_image) c
 
-pub image_code : (m : List ℕ) (c t : ℕ) → image_in m c ≡ Code (literal t) → (entry m (var c) ≢ no_image) × (t ≡ code_in m c)
+pub image_code : (m : List ℕ) (c t : ℕ) → image_in m c ≡ Some (literal t) → (entry m (var c) ≢ no_image) × (t ≡ code_in m c)
 unfolding code_of
 image_code m c t e = go (image_in m c) (looked m c) e
   where
-    go : (i : Image) → Looked (entry m (var c)) c i → i ≡ Code (literal t) → (entry m (var c) ≢ no_image) × (t ≡ code_in m c)
-    go Absent (gone h) e' = absurd (let z : ◌≡◌ {A = ℕ} 0 1 = cc in omega arith)
-    go (Code s) (found h) e' = (h, ap code_of (sym e'))
+    go : (i : Option Lit) → Looked (entry m (var c)) c i → i ≡ Some (literal t) → (entry m (var c) ≢ no_image) × (t ≡ code_in m c)
+    go None (gone h) e' = absurd (let z : ◌≡◌ {A = ℕ} 0 1 = cc in omega arith)
+    go (Some s) (found h) e' = (h, ap code_of (sym e'))
 
-pub code_image : (m : List ℕ) (c : ℕ) → entry m (var c) ≢ no_image → image_in m c ≡ Code (literal (code_in m c))
+pub code_image : (m : List ℕ) (c : ℕ) → entry m (var c) ≢ no_image → image_in m c ≡ Some (literal (code_in m c))
 code_image m c n = go (image_in m c) (looked m c)
   where
-    go : (i : Image) → Looked (entry m (var c)) c i → i ≡ Code (literal (code_in m c))
-    go Absent (gone h) = absurd (n h)
-    go (Code s) (found h) = refl
+    go : (i : Option Lit) → Looked (entry m (var c)) c i → i ≡ Some (literal (code_in m c))
+    go None (gone h) = absurd (n h)
+    go (Some s) (found h) = refl
 
-pub no_image_lem : (m : List ℕ) (c : ℕ) → entry m (var c) ≡ no_image → image_in m c ≡ Absent
+pub no_image_lem : (m : List ℕ) (c : ℕ) → entry m (var c) ≡ no_image → image_in m c ≡ None
 no_image_lem m c e = go (image_in m c) (looked m c)
   where
-    go : (i : Image) → Looked (entry m (var c)) c i → i ≡ Absent
-    go Absent (gone h) = refl
-    go (Code s) (found h) = absurd (h e)
+    go : (i : Option Lit) → Looked (entry m (var c)) c i → i ≡ None
+    go None (gone h) = refl
+    go (Some s) (found h) = absurd (h e)
 
 pub code_in_lem : (m : List ℕ) (c : ℕ) → entry m (var c) ≢ no_image → code_of (image_in m c) ≡ code_in m c
 unfolding code_of

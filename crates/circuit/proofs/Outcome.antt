@@ -1,9 +1,9 @@
 -- From the outcome back to the walk: what an answer says of the checks and of the walk; and what words written onto a lent list leave of it. Assumes
 -- nothing.
+use Rattle.std.specs.Prelude.{Option, Some, None, Ok, Err}
 use Prim.Native.Nat.{ℕ, zero, suc, ◌+◌, ◌*◌, ◌-◌, ◌%◌, ◌<◌, ◌≤◌}
 use mathlib.Core.Path.{◌≡◌, refl, sym, ◌∙◌, ap}
 use mathlib.Core.Bool.{Bool, true, false, not, cond, ◌||◌, true≢false}
-use mathlib.Core.Option.{Option, none, some}
 use mathlib.Core.List.{List, [], ◌∷◌, ◌++◌, map, append-nil}
 use native.Mathlib.Omega.{arith}
 use borrow.Author.Tests.{ltb-false, le-ltb, eqb-true, eq-eqb, not-false}
@@ -14,7 +14,6 @@ use Rattle.circuit.specs.declared.Refusal.{Refusal}
 use Rattle.circuit.specs.declared.Refusal.TheVariants as R
 use Rattle.circuit.specs.declared.Refusal.TheVariants.{TooBig, Misshapen, Short, StateAgain, Undefined, Cycle}
 use Rattle.circuit.specs.declared.Summary.{Summary}
-use Rattle.circuit.specs.declared.Answer.TheVariants.{Renumbered, Refused}
 use Rattle.lit.specs.Code.{var}
 use Rattle.circuit.specs.Graph.{In, Distinct, defined, DefinedOnce, Loop}
 use Rattle.circuit.specs.Walk.{Work, Out, reached, stopped}
@@ -148,16 +147,16 @@ module _ (l : Lent) where
   pub bounds : Tested l → InBounds C
   bounds p = go (first_over (2 * C.top + 1) (codes C)) (over_test (2 * C.top + 1) (codes C)) p.four
     where
-      go : (o : Option ℕ) → Over (2 * C.top + 1) (codes C) o → o ≡ none → InBounds C
-      go none (no_over f) e = f
-      go (some c) (one_over c' k) e = absurd (let z : ◌≡◌ {A = ℕ} 0 1 = cc in omega arith)
+      go : (o : Option ℕ) → Over (2 * C.top + 1) (codes C) o → o ≡ None → InBounds C
+      go None (no_over f) e = f
+      go (Some c) (one_over c' k) e = absurd (let z : ◌≡◌ {A = ℕ} 0 1 = cc in omega arith)
 
   pub all_reset_lem : Tested l → AllReset l.states l.resets
   all_reset_lem p = go (first_stray l.states l.resets) (stray_test l.states l.resets) p.twenty_two
     where
-      go : (o : Option ℕ) → Stray l.states l.resets o → o ≡ none → AllReset l.states l.resets
-      go none (none_stray f) e = f
-      go (some c) (one_stray c' k) e = absurd (let z : ◌≡◌ {A = ℕ} 0 1 = cc in omega arith)
+      go : (o : Option ℕ) → Stray l.states l.resets o → o ≡ None → AllReset l.states l.resets
+      go None (none_stray f) e = f
+      go (Some c) (one_stray c' k) e = absurd (let z : ◌≡◌ {A = ℕ} 0 1 = cc in omega arith)
 
   pub clean : Tested l → Clean C
   clean p = (bounds p, all_reset_lem p)
@@ -198,27 +197,27 @@ module _ (l : Lent) where
           let f : Fits l = record { one = p; two = q; three = r } in by_renumber f (renumber C) (answered C (limits f))
 
   -- an answer comes of a conclusion
-  pub success_from : (s : Summary) → (outcome l).answer ≡ Renumbered s → (w : Work) × (conclusion l ≡ reached w) × (s ≡ summary_of (ordered_of C w))
+  pub success_from : (s : Summary) → (outcome l).answer ≡ Ok s → (w : Work) × (conclusion l ≡ reached w) × (s ≡ summary_of (ordered_of C w))
   unfolding outcome after
   success_from s e = go (conclusion l) refl e
     where
-      no_success : (r : Refusal) (b : Bool) → (cond b (untouched l r) (cleared l C r)).answer ≡ Renumbered s → ⊥
+      no_success : (r : Refusal) (b : Bool) → (cond b (untouched l r) (cleared l C r)).answer ≡ Ok s → ⊥
       no_success r true k = let z : ◌≡◌ {A = ℕ} 0 1 = cc in omega arith
       no_success r false k = let z : ◌≡◌ {A = ℕ} 0 1 = cc in omega arith
 
-      go : (o : Out) → conclusion l ≡ o → (after l o).answer ≡ Renumbered s → (w : Work) × (conclusion l ≡ reached w) × (s ≡ summary_of (ordered_of C w))
+      go : (o : Out) → conclusion l ≡ o → (after l o).answer ≡ Ok s → (w : Work) × (conclusion l ≡ reached w) × (s ≡ summary_of (ordered_of C w))
       go (reached w) k a = (w, k, cc)
       go (stopped r) k a = absurd (no_success r (is_early r) a)
 
-  pub refusal_from : (r : Refusal) → (outcome l).answer ≡ Refused r → conclusion l ≡ stopped r
+  pub refusal_from : (r : Refusal) → (outcome l).answer ≡ Err r → conclusion l ≡ stopped r
   unfolding outcome after
   refusal_from r e = go (conclusion l) refl e
     where
-      same_refusal : (r' : Refusal) (b : Bool) → (cond b (untouched l r') (cleared l C r')).answer ≡ Refused r → r' ≡ r
+      same_refusal : (r' : Refusal) (b : Bool) → (cond b (untouched l r') (cleared l C r')).answer ≡ Err r → r' ≡ r
       same_refusal r' true k = cc
       same_refusal r' false k = cc
 
-      go : (o : Out) → conclusion l ≡ o → (after l o).answer ≡ Refused r → conclusion l ≡ stopped r
+      go : (o : Out) → conclusion l ≡ o → (after l o).answer ≡ Err r → conclusion l ≡ stopped r
       go (reached w) k a = absurd (let z : ◌≡◌ {A = ℕ} 0 1 = cc in omega arith)
       go (stopped r') k a = k ∙ ap stopped (same_refusal r' (is_early r') a)
 

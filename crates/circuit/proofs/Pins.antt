@@ -1,18 +1,16 @@
 -- Circuits that pin the definitions cell by cell, by computation: each is the smallest on which a neighbouring definition answers otherwise. The lent lists
 -- are dirty and three cells longer than asked, and the cells past those named are seen to stay. Assumes nothing.
+use Rattle.std.specs.Prelude.{Some, None, Ok, Err}
 use Prim.Native.Nat.{ℕ, zero, suc, ◌+◌, ◌*◌, ◌/◌, ◌≤◌}
 use mathlib.Core.Path.{◌≡◌, refl, sym, ◌∙◌, ap}
 use mathlib.Core.Logic.{◌⊎◌, inl, inr}
 use mathlib.Core.Bool.{Bool, true, false, not}
-use mathlib.Core.Option.{none, some}
 use mathlib.Core.List.{List, [], ◌∷◌, ◌++◌, map}
 use native.Mathlib.Omega.{arith}
 use lib.ListN.{length, replicate}
 use Rattle.lit.specs.Code.{var, literal, variable, is_odd, flipped}
 use Rattle.circuit.specs.declared.Refusal.{Refusal}
 use Rattle.circuit.specs.declared.Refusal.TheVariants.{Misshapen, Short, Over, Reset, Again, StateAgain, Undefined, Cycle}
-use Rattle.circuit.specs.declared.Answer.TheVariants.{Renumbered, Refused}
-use Rattle.circuit.specs.declared.Image.TheVariants.{Absent, Code}
 use Rattle.circuit.specs.Graph.{In, Distinct, Gate, out_var, Graph, defined, gate_for, Step, to_first, to_second, Reach, here, via, Loop, Grounded, Uses, itself, first_of, second_of, negated, Means, constant, source, negation}
 use Rattle.circuit.specs.Graph as graphs
 use Rattle.circuit.specs.Map.{entry_image, image_in, store, code_of}
@@ -59,7 +57,7 @@ gives_with l made top map nexts resets gates roots scratch =
     record {
       lent = l;
       expected =
-          outcome_of (Renumbered (record { made = made; top = variable top })) (over map) (over nexts) (over resets) (over roots) (over gates)
+          outcome_of (Ok (record { made = made; top = variable top })) (over map) (over nexts) (over resets) (over roots) (over gates)
           (over (replicate scratch 0));
     }
 
@@ -72,14 +70,14 @@ clears l why map nexts roots gates scratch =
     record {
       lent = l;
       expected =
-          outcome_of (Refused why) (over (replicate map gone)) (over (replicate nexts 0)) (over (replicate nexts 0)) (over (replicate roots 0))
+          outcome_of (Err why) (over (replicate map gone)) (over (replicate nexts 0)) (over (replicate nexts 0)) (over (replicate roots 0))
           (over (replicate gates 0)) (over (replicate scratch 0));
     }
 
 -- refused by 1 to 4 or 22: so many dirty cells of each stay
 abbrev stays : Lent → Refusal → ℕ → ℕ → ℕ → ℕ → ℕ → Example
 stays l why map nexts roots gates scratch =
-    record { lent = l; expected = outcome_of (Refused why) (dirty map) (dirty nexts) (dirty nexts) (dirty roots) (dirty gates) (dirty scratch) }
+    record { lent = l; expected = outcome_of (Err why) (dirty map) (dirty nexts) (dirty nexts) (dirty roots) (dirty gates) (dirty scratch) }
 
 -- input 2, latch (4,7), gate 6(2,5), root 7, each with one thing wrong
 abbrev cells : List Example
@@ -250,8 +248,8 @@ pub latches_pinned :
     × (too_short (latched (88 ∷ []) (88 ∷ [])) (sized 0 [] (2 ∷ []) [] []) ≡ false)
     × ((cleared (latched (88 ∷ 89 ∷ []) []) (sized 0 [] (2 ∷ []) [] []) Short).next_images ≡ 0 ∷ 89 ∷ [])
     × ((cleared (latched [] (88 ∷ 89 ∷ [])) (sized 0 [] (2 ∷ []) [] []) Short).reset_images ≡ 0 ∷ 89 ∷ [])
-    × ((held (latched [] []) (record { made = 0; top = variable 0 }) (outcome_of (Refused Short) [] (88 ∷ 89 ∷ []) [] [] [] [])).nexts ≡ 88 ∷ [])
-    × ((held (latched [] []) (record { made = 0; top = variable 0 }) (outcome_of (Refused Short) [] [] (88 ∷ 89 ∷ []) [] [] [])).resets ≡ 88 ∷ [])
+    × ((held (latched [] []) (record { made = 0; top = variable 0 }) (outcome_of (Err Short) [] (88 ∷ 89 ∷ []) [] [] [] [])).nexts ≡ 88 ∷ [])
+    × ((held (latched [] []) (record { made = 0; top = variable 0 }) (outcome_of (Err Short) [] [] (88 ∷ 89 ∷ []) [] [] [])).resets ≡ 88 ∷ [])
 unfolding too_short held
 latches_pinned = (refl, refl, refl, refl, refl, refl, refl)
 
@@ -274,9 +272,9 @@ pub fields_pinned :
       gates_out = 9 ∷ [];
       scratch = 10 ∷ [];
     })
-    × (outcome_of (Refused Short) (1 ∷ []) (2 ∷ []) (6 ∷ []) (3 ∷ []) (4 ∷ []) (5 ∷ [])
+    × (outcome_of (Err Short) (1 ∷ []) (2 ∷ []) (6 ∷ []) (3 ∷ []) (4 ∷ []) (5 ∷ [])
     ≡ record {
-      answer = Refused Short;
+      answer = Err Short;
       map = 1 ∷ [];
       next_images = 2 ∷ [];
       reset_images = 6 ∷ [];
@@ -290,7 +288,7 @@ pub fields_pinned :
     × (pairs_of (1 ∷ 2 ∷ 3 ∷ 4 ∷ []) ≡ pair 1 2 ∷ pair 3 4 ∷ [])
     × (pairs_of (1 ∷ 2 ∷ 3 ∷ []) ≡ pair 1 2 ∷ [])
     × (pair_words (pair 1 2 ∷ pair 3 4 ∷ []) ≡ (1 ∷ 2 ∷ 3 ∷ 4 ∷ []))
-    × (code_of Absent ≡ 0) × (code_of (Code (literal 7)) ≡ 7)
+    × (code_of None ≡ 0) × (code_of (Some (literal 7)) ≡ 7)
 unfolding code_of
 fields_pinned = (refl, refl, refl, refl, refl, refl, refl, refl, refl, refl)
 
@@ -515,21 +513,21 @@ means_pinned = (
 
 -- the folding rows by themselves: either is 0; the larger is 1, or both are equal; the smaller is 1; none of these
 pub folded_pinned :
-    (folded 0 3 ≡ some 0) × (folded 3 0 ≡ some 0) × (folded 1 3 ≡ some 3) × (folded 3 3 ≡ some 3) × (folded 3 1 ≡ some 3) × (folded 4 3 ≡ none)
+    (folded 0 3 ≡ Some 0) × (folded 3 0 ≡ Some 0) × (folded 1 3 ≡ Some 3) × (folded 3 3 ≡ Some 3) × (folded 3 1 ≡ Some 3) × (folded 4 3 ≡ None)
 unfolding folded
 folded_pinned = (refl, refl, refl, refl, refl, refl)
 
 -- the search among the gates made, the first of which has the code 6: both inputs count, and of two alike the last is found
 pub made_pinned :
-    (made_before (pair 4 2 ∷ pair 5 2 ∷ pair 4 3 ∷ []) 6 4 3 ≡ some 10) × (made_before (pair 4 2 ∷ pair 5 2 ∷ pair 4 3 ∷ []) 6 5 3 ≡ none)
-    × (made_before (pair 4 2 ∷ pair 5 2 ∷ pair 4 2 ∷ []) 6 4 2 ≡ some 10)
+    (made_before (pair 4 2 ∷ pair 5 2 ∷ pair 4 3 ∷ []) 6 4 3 ≡ Some 10) × (made_before (pair 4 2 ∷ pair 5 2 ∷ pair 4 3 ∷ []) 6 5 3 ≡ None)
+    × (made_before (pair 4 2 ∷ pair 5 2 ∷ pair 4 2 ∷ []) 6 4 2 ≡ Some 10)
 made_pinned = (refl, refl, refl)
 
 -- the gate of a variable by either sign, what is defined, a negation; bits of gates over two sources, and of a literal past them; what a lookup past
 -- the gates gives; the room of the stack for three gates, and two words of it
 pub words_pinned :
-    (gate_for (gate 3 1 2 ∷ gate 4 5 6 ∷ []) 1 ≡ some (gate 3 1 2)) × (gate_for (gate 3 1 2 ∷ gate 4 5 6 ∷ []) 2 ≡ some (gate 4 5 6))
-    × (gate_for (gate 3 1 2 ∷ gate 4 5 6 ∷ []) 3 ≡ none)
+    (gate_for (gate 3 1 2 ∷ gate 4 5 6 ∷ []) 1 ≡ Some (gate 3 1 2)) × (gate_for (gate 3 1 2 ∷ gate 4 5 6 ∷ []) 2 ≡ Some (gate 4 5 6))
+    × (gate_for (gate 3 1 2 ∷ gate 4 5 6 ∷ []) 3 ≡ None)
     × (defined (record { sources = 2 ∷ 5 ∷ []; gates = gate 7 1 2 ∷ [] }) ≡ (0 ∷ 1 ∷ 2 ∷ 3 ∷ [])) × (negated 4 ≡ 5) × (negated 5 ≡ 4)
     × (values_of (pair 4 2 ∷ pair 7 2 ∷ []) (true ∷ true ∷ []) ≡ (false ∷ true ∷ true ∷ true ∷ false ∷ []))
     × (values_of (pair 5 2 ∷ pair 7 3 ∷ []) (true ∷ false ∷ []) ≡ (false ∷ true ∷ false ∷ true ∷ false ∷ []))

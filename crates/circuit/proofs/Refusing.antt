@@ -1,5 +1,6 @@
 -- What is true where renumbering refuses, from the tests as they are computed to what they say; and every lent cell after a refusal: 1 to 4 and 22 leave them all,
 -- the others fill the fronts of the lists, for which check 3 has found room. Assumes nothing.
+use Rattle.std.specs.Prelude.{Err}
 use Prim.Native.Nat.{ℕ, ◌*◌, ◌≤◌}
 use mathlib.Core.Path.{◌≡◌, refl, sym, ◌∙◌, ap, subst, subst⁻¹}
 use mathlib.Core.Logic.{◌⊎◌, inl, inr}
@@ -9,7 +10,6 @@ use native.Mathlib.Omega.{arith}
 use lib.ListN.{length}
 use Rattle.circuit.specs.declared.Refusal.{Refusal}
 use Rattle.circuit.specs.declared.Refusal.TheVariants.{TooBig, Misshapen, Short, Over, Reset, Again, StateAgain, Undefined, Cycle}
-use Rattle.circuit.specs.declared.Answer.TheVariants.{Refused}
 use Rattle.circuit.specs.Map.{no_image}
 use Rattle.circuit.specs.Circuit.{Circuit}
 use Rattle.circuit.specs.Outcome.{Lent, circuit_of, map_words, scratch_words, cleared, untouched, is_early, outcome}
@@ -88,10 +88,10 @@ module _ (l : Lent) where
   says (Undefined d) w = (passes w.0, w.1, w.2, w.3)
   says (Cycle d) w = (passes w.0, w.1, w.2, w.3)
 
-  pub refusals_true_lem : (r : Refusal) → (outcome l).answer ≡ Refused r → IsTrue l r
+  pub refusals_true_lem : (r : Refusal) → (outcome l).answer ≡ Err r → IsTrue l r
   refusals_true_lem r e = says r (subst (Concluded l) (refusal_from l r e) (concluded l))
 
-module _ (l : Lent) (r : Refusal) (e : (outcome l).answer ≡ Refused r) where
+module _ (l : Lent) (r : Refusal) (e : (outcome l).answer ≡ Err r) where
   abbrev C : Circuit
   C = circuit_of l
 

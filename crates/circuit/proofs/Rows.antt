@@ -1,10 +1,10 @@
 -- The folding rows as they are computed are document 01's rows, and a larger and a smaller code have one row's answer at most: where two rows take them, they
 -- agree. Assumes nothing.
+use Rattle.std.specs.Prelude.{Option, Some, None}
 use Prim.Native.Nat.{ℕ, ◌≤◌}
 use mathlib.Core.Path.{◌≡◌, refl, sym, ◌∙◌, subst}
 use mathlib.Core.Logic.{◌⊎◌, inl, inr, ◌↔◌}
 use mathlib.Core.Bool.{Bool, true, false, cond, ◌||◌}
-use mathlib.Core.Option.{Option, none, some}
 use native.Mathlib.Omega.{arith}
 use lib.Dec.{eqb}
 use Rattle.circuit.specs.Walk.{folded, folded_if}
@@ -13,8 +13,8 @@ use Rattle.circuit.proofs.Tests.{Same, same, other, same_test}
 
 -- the rows, with what they say
 data RowIs (hi lo : ℕ) : Option ℕ → Type 0 where
-  takes : (t : ℕ) → Folds hi lo t → RowIs hi lo (some t)
-  leaves : ((t : ℕ) → Folds hi lo t → ⊥) → RowIs hi lo none
+  takes : (t : ℕ) → Folds hi lo t → RowIs hi lo (Some t)
+  leaves : ((t : ℕ) → Folds hi lo t → ⊥) → RowIs hi lo None
 
 row_is : (hi lo : ℕ) → RowIs hi lo (folded hi lo)
 unfolding folded
@@ -22,7 +22,7 @@ row_is hi lo =
     go (eqb hi 0) (same_test hi 0) (eqb lo 0) (same_test lo 0) (eqb hi 1) (same_test hi 1) (eqb hi lo) (same_test hi lo) (eqb lo 1) (same_test lo 1)
   where
     go : (a : Bool) → Same hi 0 a → (b : Bool) → Same lo 0 b → (c : Bool) → Same hi 1 c → (d : Bool) → Same hi lo d → (e : Bool) → Same lo 1 e
-        → RowIs hi lo (cond (a || b) (some 0) (cond (c || d) (some lo) (cond e (some hi) none)))
+        → RowIs hi lo (cond (a || b) (Some 0) (cond (c || d) (Some lo) (cond e (Some hi) None)))
     go true (same h) b s₂ c s₃ d s₄ e s₅ = takes 0 (either_zero (inl h))
     go false s₁ true (same h) c s₃ d s₄ e s₅ = takes 0 (either_zero (inr h))
     go false s₁ false s₂ true (same h) d s₄ e s₅ = takes lo (larger_one h)
@@ -57,25 +57,25 @@ one_row hi lo t t' h p q = go (row_value hi lo t h p) (row_value hi lo t' h q)
 
 -- the rows as the flag allows them
 pub data RowIf (fold : Bool) (hi lo : ℕ) : Option ℕ → Type 0 where
-  takes_if : (t : ℕ) → fold ≡ true → Folds hi lo t → RowIf fold hi lo (some t)
-  leaves_if : ((t : ℕ) → fold ≡ true → Folds hi lo t → ⊥) → RowIf fold hi lo none
+  takes_if : (t : ℕ) → fold ≡ true → Folds hi lo t → RowIf fold hi lo (Some t)
+  leaves_if : ((t : ℕ) → fold ≡ true → Folds hi lo t → ⊥) → RowIf fold hi lo None
 
 pub row_if : (fold : Bool) (hi lo : ℕ) → RowIf fold hi lo (folded_if fold hi lo)
 row_if true hi lo = go (folded hi lo) (row_is hi lo)
   where
     go : (o : Option ℕ) → RowIs hi lo o → RowIf true hi lo o
-    go (some t) (takes t' f) = takes_if t refl f
-    go none (leaves n) = leaves_if (λ t e f. n t f)
+    go (Some t) (takes t' f) = takes_if t refl f
+    go None (leaves n) = leaves_if (λ t e f. n t f)
 row_if false hi lo = leaves_if (λ t e f. let z : ◌≡◌ {A = ℕ} 0 1 = cc in omega arith)
 
 -- document 01's rows, exactly
-pub rows_exactly : (hi lo t : ℕ) → lo ≤ hi → (folded hi lo ≡ some t) ↔ Folds hi lo t
+pub rows_exactly : (hi lo t : ℕ) → lo ≤ hi → (folded hi lo ≡ Some t) ↔ Folds hi lo t
 rows_exactly hi lo t h = (λ e. to (folded hi lo) (row_is hi lo) e, λ f. from f (folded hi lo) (row_is hi lo))
   where
-    to : (o : Option ℕ) → RowIs hi lo o → o ≡ some t → Folds hi lo t
-    to (some t') (takes t'' f) e = let q : t' ≡ t = cc in subst (Folds hi lo) q f
-    to none (leaves n) e = absurd (let z : ◌≡◌ {A = ℕ} 0 1 = cc in omega arith)
+    to : (o : Option ℕ) → RowIs hi lo o → o ≡ Some t → Folds hi lo t
+    to (Some t') (takes t'' f) e = let q : t' ≡ t = cc in subst (Folds hi lo) q f
+    to None (leaves n) e = absurd (let z : ◌≡◌ {A = ℕ} 0 1 = cc in omega arith)
 
-    from : Folds hi lo t → (o : Option ℕ) → RowIs hi lo o → o ≡ some t
-    from f (some t') (takes t'' f') = let e : t' ≡ t = one_row hi lo t' t h f' f in rw e
-    from f none (leaves n) = absurd (n t f)
+    from : Folds hi lo t → (o : Option ℕ) → RowIs hi lo o → o ≡ Some t
+    from f (Some t') (takes t'' f') = let e : t' ≡ t = one_row hi lo t' t h f' f in rw e
+    from f None (leaves n) = absurd (n t f)

@@ -1,6 +1,7 @@
 -- An ordered circuit in order whose gates are each new where they stand comes out of the walk as it went in (`second`), with hashing and folding on or off: the
 -- map at the start takes each source to itself, the walk of the gates' outputs does so with each gate (`again`), and then every next state and root has itself
 -- for its image, so that walking them changes nothing. For document 02's Q-14, that a second pass changes nothing. Assumes nothing.
+use Rattle.std.specs.Prelude.{Some}
 use Prim.Native.Nat.{ℕ, zero, suc, ◌+◌, ◌*◌, ◌<◌, ◌≤◌}
 use mathlib.Core.Path.{◌≡◌, refl, sym, ◌∙◌, ap, ap₂, subst, subst⁻¹}
 use mathlib.Core.Logic.{◌⊎◌, inl, inr}
@@ -11,7 +12,6 @@ use lib.Dec.{leb}
 use lib.ListN.{length}
 use lib.Seq.{take-length}
 use Rattle.lit.specs.Code.{literal}
-use Rattle.circuit.specs.declared.Image.TheVariants.{Code}
 use Rattle.circuit.specs.Graph.{In}
 use Rattle.circuit.specs.Map.{no_image, image_in}
 use Rattle.circuit.specs.Walk.{Net, source_count, Pair, Work, Out, reached, stopped, first_code, next_code, and_then, walk, stack_room, walk_all}
@@ -39,7 +39,7 @@ walk_parts N room (x ∷ xs) ys w = go (walk N room [] w x) (λ w'. walk_parts N
     go (stopped r) rec = refl
 
 -- literals that all have images are walked at once
-walk_images : (N : Net) (room : ℕ) (cs : List ℕ) (w : Work) → ((c : ℕ) → In c cs → image_in w.images c ≡ Code (literal c))
+walk_images : (N : Net) (room : ℕ) (cs : List ℕ) (w : Work) → ((c : ℕ) → In c cs → image_in w.images c ≡ Some (literal c))
     → walk_all N room cs w ≡ reached w
 unfolding walk_all
 walk_images N room [] w f = refl

@@ -1,10 +1,10 @@
 -- What settling a gate finds: a code that stands for the AND of the two images, by a folding row, by a gate made before, or by one gate more. In
 -- each case the code has the bit of the AND, and what was there keeps its bits. Assumes nothing.
+use Rattle.std.specs.Prelude.{Option, Some, None}
 use Prim.Native.Nat.{ℕ, zero, suc, ◌+◌, ◌*◌, ◌<◌, ◌≤◌}
 use mathlib.Core.Path.{◌≡◌, refl, sym, ◌∙◌, ap, ap₂, subst}
 use mathlib.Core.Logic.{◌⊎◌, inl, inr, ◌≢◌}
 use mathlib.Core.Bool.{Bool, true, false, cond, ◌&&◌, ◌||◌}
-use mathlib.Core.Option.{Option, none, some}
 use mathlib.Core.List.{List, [], ◌∷◌, ◌++◌}
 use native.Mathlib.Omega.{arith}
 use lib.Dec.{eqb}
@@ -40,8 +40,8 @@ pub record Stands (n : ℕ) (made : List Pair) (t a b : ℕ) : Type 0 where
   pub ands : (given : ℕ → Bool) → val n given made t ≡ val n given made a && val n given made b
 
 abbrev StandsIf : ℕ → List Pair → ℕ → ℕ → Option ℕ → Type 0
-StandsIf n made hi lo none = Unit {0}
-StandsIf n made hi lo (some t) = Stands n made t hi lo
+StandsIf n made hi lo None = Unit {0}
+StandsIf n made hi lo (Some t) = Stands n made t hi lo
 
 module _ (n : ℕ) (made : List Pair) (hi lo : ℕ) (p : hi < next_code n made) (q : lo < next_code n made) where
   next_pos : 1 < next_code n made
@@ -55,7 +55,7 @@ module _ (n : ℕ) (made : List Pair) (hi lo : ℕ) (p : hi < next_code n made) 
       go (eqb hi 0) (same_test hi 0) (eqb lo 0) (same_test lo 0) (eqb hi 1) (same_test hi 1) (eqb hi lo) (same_test hi lo) (eqb lo 1) (same_test lo 1)
     where
       go : (a : Bool) → Same hi 0 a → (b : Bool) → Same lo 0 b → (c : Bool) → Same hi 1 c → (d : Bool) → Same hi lo d → (e : Bool) → Same lo 1 e
-          → StandsIf n made hi lo (cond (a || b) (some 0) (cond (c || d) (some lo) (cond e (some hi) none)))
+          → StandsIf n made hi lo (cond (a || b) (Some 0) (cond (c || d) (Some lo) (cond e (Some hi) None)))
       go true (same h) b s₂ c s₃ d s₄ e s₅ = record { below = omega (arith, next_pos); ands = λ given. rw (h, val-zero n given made) }
       go false s₁ true (same h) c s₃ d s₄ e s₅ =
           record { below = omega (arith, next_pos); ands = λ given. rw (h, val-zero n given made) (sym (and-false (val n given made hi))) }
@@ -71,8 +71,8 @@ module _ (n : ℕ) (made : List Pair) (hi lo : ℕ) (p : hi < next_code n made) 
 
 -- the search among the gates made, with what it says
 data Before (ps : List Pair) (t hi lo : ℕ) : Option ℕ → Type 0 where
-  before : (s j : ℕ) → j < length ps → s ≡ t + 2 * j → get_or ps j no_pair ≡ pair hi lo → Before ps t hi lo (some s)
-  never : ((j : ℕ) → j < length ps → get_or ps j no_pair ≢ pair hi lo) → Before ps t hi lo none
+  before : (s j : ℕ) → j < length ps → s ≡ t + 2 * j → get_or ps j no_pair ≡ pair hi lo → Before ps t hi lo (Some s)
+  never : ((j : ℕ) → j < length ps → get_or ps j no_pair ≢ pair hi lo) → Before ps t hi lo None
 
 before_is : (ps : List Pair) (t hi lo : ℕ) → Before ps t hi lo (made_before ps t hi lo)
 before_is [] t hi lo = never (λ j h. absurd (omega arith))
@@ -85,7 +85,7 @@ before_is (p ∷ ps) t hi lo =
     not_here n f (suc j) h = f j (omega arith)
 
     go : (o : Option ℕ) → Before ps (t + 2) hi lo o → (a : Bool) → Same p.larger hi a → (b : Bool) → Same p.smaller lo b
-        → Before (p ∷ ps) t hi lo (or_else o (cond (a && b) (some t) none))
+        → Before (p ∷ ps) t hi lo (or_else o (cond (a && b) (Some t) None))
     go o (before s j h e k) a s₁ b s₂ = before s (suc j) (omega arith) (omega arith) k
     go o (never f) true (same h) true (same k) = before t 0 (omega arith) (omega arith) (ap₂ pair h k)
     go o (never f) true s₁ false (other k) = never (not_here (λ e. k (ap (λ (x : Pair). x.smaller) e)) f)
@@ -93,11 +93,11 @@ before_is (p ∷ ps) t hi lo =
 
 -- what stands for the pair already, with what it says
 pub data Already (N : Net) (made : List Pair) (hi lo : ℕ) : Option ℕ → Type 0 where
-  is_folded : (t : ℕ) → folded_if N.fold hi lo ≡ some t → Already N made hi lo (some t)
-  is_made : (t j : ℕ) → folded_if N.fold hi lo ≡ none → N.hash ≡ true → j < length made → t ≡ first_code (source_count N) + 2 * j
+  is_folded : (t : ℕ) → folded_if N.fold hi lo ≡ Some t → Already N made hi lo (Some t)
+  is_made : (t j : ℕ) → folded_if N.fold hi lo ≡ None → N.hash ≡ true → j < length made → t ≡ first_code (source_count N) + 2 * j
       → get_or made j no_pair ≡ pair hi lo
-      → Already N made hi lo (some t)
-  is_new : folded_if N.fold hi lo ≡ none → (N.hash ≡ true → (j : ℕ) → j < length made → get_or made j no_pair ≢ pair hi lo) → Already N made hi lo none
+      → Already N made hi lo (Some t)
+  is_new : folded_if N.fold hi lo ≡ None → (N.hash ≡ true → (j : ℕ) → j < length made → get_or made j no_pair ≢ pair hi lo) → Already N made hi lo None
 
 pub already_is : (N : Net) (made : List Pair) (hi lo : ℕ) → Already N made hi lo (already N made hi lo)
 unfolding already
@@ -105,11 +105,11 @@ already_is N made hi lo =
     go (folded_if N.fold hi lo) refl N.hash refl (made_before made (first_code (source_count N)) hi lo) (before_is made (first_code (source_count N)) hi lo)
   where
     go : (f : Option ℕ) → folded_if N.fold hi lo ≡ f → (h : Bool) → N.hash ≡ h → (m : Option ℕ) → Before made (first_code (source_count N)) hi lo m
-        → Already N made hi lo (or_else f (cond h m none))
-    go (some t) e h k m b = is_folded t e
-    go none e true k m (before s j l q r) = is_made s j e k l q r
-    go none e true k m (never n) = is_new e (λ z. n)
-    go none e false k m b = is_new e (λ z. absurd (let y : ◌≡◌ {A = Bool} true false = cc in let w : ◌≡◌ {A = ℕ} 0 1 = cc in omega arith))
+        → Already N made hi lo (or_else f (cond h m None))
+    go (Some t) e h k m b = is_folded t e
+    go None e true k m (before s j l q r) = is_made s j e k l q r
+    go None e true k m (never n) = is_new e (λ z. n)
+    go None e false k m b = is_new e (λ z. absurd (let y : ◌≡◌ {A = Bool} true false = cc in let w : ◌≡◌ {A = ℕ} 0 1 = cc in omega arith))
 
 -- a code t is found for the AND of hi and lo, perhaps by one gate more
 pub record Placed (N : Net) (made : List Pair) (hi lo t : ℕ) (made' : List Pair) : Type 0 where
@@ -122,18 +122,18 @@ pub record Placed (N : Net) (made : List Pair) (hi lo t : ℕ) (made' : List Pai
   pub makes : Makes N made' hi lo t
   pub grows : (a b s : ℕ) → Makes N made a b s → Makes N made' a b s
   pub fresh : Fresh N made'
-  pub own : N.hash ≡ false → folded_if N.fold hi lo ≡ none → next_code (source_count N) made ≤ t
+  pub own : N.hash ≡ false → folded_if N.fold hi lo ≡ None → next_code (source_count N) made ≤ t
   -- each gate was there before, or is the one more, made because no folding row took the pair
   pub only : (j : ℕ) → j < length made'
       → ((j < length made) × (get_or made' j no_pair ≡ get_or made j no_pair))
-      ⊎ ((t ≡ first_code (source_count N) + 2 * j) × (get_or made' j no_pair ≡ pair hi lo) × (folded_if N.fold hi lo ≡ none))
+      ⊎ ((t ≡ first_code (source_count N) + 2 * j) × (get_or made' j no_pair ≡ pair hi lo) × (folded_if N.fold hi lo ≡ None))
 
 module _ (N : Net) (made : List Pair) (hi lo : ℕ) (ordered : lo ≤ hi) (small : hi < next_code (source_count N) made)
     (order : InOrder (source_count N) made) (fresh : Fresh N made) where
   abbrev n : ℕ
   n = source_count N
 
-  pub placed_old : (t : ℕ) → Already N made hi lo (some t) → Placed N made hi lo t made
+  pub placed_old : (t : ℕ) → Already N made hi lo (Some t) → Placed N made hi lo t made
   unfolding next_code
   placed_old t (is_folded t' e) =
       let s : Stands n made t hi lo = subst (StandsIf n made hi lo) e (folded_if_stands n made hi lo small (omega arith) N.fold) in
@@ -147,7 +147,7 @@ module _ (N : Net) (made : List Pair) (hi lo : ℕ) (ordered : lo ≤ hi) (small
         makes = inl e;
         grows = λ a b u m. m;
         fresh = fresh;
-        own = λ h k. absurd (let y : ◌≡◌ {A = Option ℕ} none (some t) = sym k ∙ e in let z : ◌≡◌ {A = ℕ} 0 1 = cc in omega arith);
+        own = λ h k. absurd (let y : ◌≡◌ {A = Option ℕ} None (Some t) = sym k ∙ e in let z : ◌≡◌ {A = ℕ} 0 1 = cc in omega arith);
         only = λ j h. inl (h, refl);
       }
   placed_old t (is_made t' j e h l q r) =
@@ -180,8 +180,8 @@ module _ (N : Net) (made : List Pair) (hi lo : ℕ) (ordered : lo ≤ hi) (small
   order' j (inl h) = rw (get_or-append made (pair hi lo ∷ []) no_pair j h) (order j h)
   order' j (inr e) = rw (e, get_or-append_seam made (pair hi lo) [] no_pair) (ordered, small)
 
-  fresh' : already N made hi lo ≡ none → (j : ℕ) → (j < length made) ⊎ (j ≡ length made)
-      → already N (take j made') (get_or made' j no_pair).larger (get_or made' j no_pair).smaller ≡ none
+  fresh' : already N made hi lo ≡ None → (j : ℕ) → (j < length made) ⊎ (j ≡ length made)
+      → already N (take j made') (get_or made' j no_pair).larger (get_or made' j no_pair).smaller ≡ None
   fresh' a j (inl h) =
       rw (get_or-append made (pair hi lo ∷ []) no_pair j h, take-append-le j made (pair hi lo ∷ []) (omega arith)) (fresh j h)
   fresh' a j (inr e) = rw (e, get_or-append_seam made (pair hi lo) [] no_pair, take-append_seam made (pair hi lo ∷ [])) a
@@ -190,15 +190,15 @@ module _ (N : Net) (made : List Pair) (hi lo : ℕ) (ordered : lo ≤ hi) (small
   grows' a b s (inl e) = inl e
   grows' a b s (inr m) = inr (m.0, omega (arith, m.1, longer), m.2, get_or-append made (pair hi lo ∷ []) no_pair m.0 m.1 ∙ m.3, m.4)
 
-  only' : folded_if N.fold hi lo ≡ none → (j : ℕ) → (j < length made) ⊎ (j ≡ length made)
+  only' : folded_if N.fold hi lo ≡ None → (j : ℕ) → (j < length made) ⊎ (j ≡ length made)
       → ((j < length made) × (get_or made' j no_pair ≡ get_or made j no_pair))
-      ⊎ ((next_code n made ≡ first_code n + 2 * j) × (get_or made' j no_pair ≡ pair hi lo) × (folded_if N.fold hi lo ≡ none))
+      ⊎ ((next_code n made ≡ first_code n + 2 * j) × (get_or made' j no_pair ≡ pair hi lo) × (folded_if N.fold hi lo ≡ None))
   unfolding next_code
   only' f j (inl h) = inl (h, get_or-append made (pair hi lo ∷ []) no_pair j h)
   only' f j (inr e) =
       inr (omega arith, ap (λ (k : ℕ). get_or made' k no_pair) e ∙ get_or-append_seam made (pair hi lo) [] no_pair, f)
 
-  pub placed_new : already N made hi lo ≡ none → folded_if N.fold hi lo ≡ none → Placed N made hi lo (next_code n made) made'
+  pub placed_new : already N made hi lo ≡ None → folded_if N.fold hi lo ≡ None → Placed N made hi lo (next_code n made) made'
   unfolding next_code
   placed_new a f =
       record {

@@ -3,8 +3,7 @@
 use mathlib.Core.Path.{◌≡◌, refl}
 use mathlib.Core.List.{List, [], ◌∷◌, map}
 use Rattle.lit.specs.Code.{literal, flipped}
-use Rattle.token.specs.Answer.{go_on_at, binary_at, delta_at, token_number}
-use Rattle.token.specs.declared.Token.TheVariants.{Value}
+use Rattle.token.specs.Answer.{go_on_at, binary_at, delta_at, token_number, value}
 use Rattle.circuit.specs.declared.Refusal.TheVariants.{TooBig, Cycle}
 use Rattle.circuit.specs.Map.{entry_image, image_in, store, code_of}
 use Rattle.circuit.specs.Walk.{first_code, next_code, folded, already, settle_as, settle_on, settle, stopped, look, through_inputs, walk, walk_all}
@@ -51,8 +50,8 @@ pub starred :
     -- the one named so is two entries deep: one entry is no room for it
     × (walk (net (circuit_of two_deep)) 1 [] (start 1 []) 3 ≡ stopped TooBig)
     -- deltas from the reference 6: `02` gives 4; `80 00` gives 6; `07` is 17; `80` is 15; eight `80` is 16
-    × (delta_at (0x02 ∷ []) 0 6 ≡ Value 4 1)
-    × (delta_at (0x80 ∷ 0x00 ∷ []) 0 6 ≡ Value 6 2)
+    × (delta_at (0x02 ∷ []) 0 6 ≡ value 4 1)
+    × (delta_at (0x80 ∷ 0x00 ∷ []) 0 6 ≡ value 6 2)
     × (token_number (delta_at (0x07 ∷ []) 0 6) ≡ 17)
     × (token_number (delta_at (0x80 ∷ []) 0 6) ≡ 15)
     × (token_number (delta_at (0x80 ∷ 0x80 ∷ 0x80 ∷ 0x80 ∷ 0x80 ∷ 0x80 ∷ 0x80 ∷ 0x80 ∷ []) 0 6) ≡ 16)

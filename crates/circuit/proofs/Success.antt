@@ -1,10 +1,10 @@
 -- What holds after success: the lent lists hold the walk's map, images and gates, so each fact about the walk's work is a fact about them. Assumes
 -- nothing.
+use Rattle.std.specs.Prelude.{Option, Some, None, Ok}
 use Prim.Native.Nat.{ℕ, suc, ◌+◌, ◌*◌, ◌-◌, ◌<◌, ◌≤◌}
 use mathlib.Core.Path.{◌≡◌, refl, sym, ◌∙◌, ap, ap₂, subst, subst⁻¹}
 use mathlib.Core.Logic.{inl, inr, ◌≢◌}
 use mathlib.Core.Bool.{Bool, true, false, cond}
-use mathlib.Core.Option.{Option, none, some}
 use mathlib.Core.List.{List, [], ◌++◌}
 use native.Mathlib.Omega.{arith}
 use lib.Dec.{ltb}
@@ -12,7 +12,6 @@ use lib.ListN.{length, get_or, take, drop, length-append, length-map, length-rep
 use lib.Seq.{take_at, take-append-le, get_or-take}
 use Rattle.lit.specs.Code.{var, literal, flipped}
 use Rattle.lit.specs.declared.Lit.{Lit}
-use Rattle.circuit.specs.declared.Image.TheVariants.{Absent}
 use Rattle.circuit.specs.Graph.{In, Means}
 use Rattle.circuit.specs.Map.{no_image, image_in, image_of, code_of}
 use Rattle.circuit.specs.Walk.{source_count, Pair, Work, reached, first_code, next_code, already}
@@ -20,7 +19,6 @@ use Rattle.circuit.specs.Circuit.{Circuit, graph, net, walked, gate_outputs}
 use Rattle.circuit.specs.Ordered.{Ordered, ordered_with, images_in, carried_from, first_latch, count_from, ordered_of, sources_of, ordered_graph, no_pair, InOrder}
 use Rattle.circuit.specs.Outcome.{Lent, Outcome, circuit_of, conclusion, onto, zeros, pair_words, pairs_of, summary_of, outcome, held}
 use Rattle.circuit.specs.declared.Summary.{Summary}
-use Rattle.circuit.specs.declared.Answer.TheVariants.{Renumbered}
 use Rattle.circuit.specs.Claims.{AllReset, first_value, HasImage, Named, SameValue, Roomy}
 use Rattle.circuit.specs.Tested.{Fits, Tested}
 use Rattle.circuit.proofs.Tests.{AtMost, at_most, above, le_test}
@@ -82,7 +80,7 @@ module _ (l : Lent) (w : Work) (e : conclusion l ≡ reached w) where
       map_is : (outcome l).map ≡ onto w.images l.map
       map_is = ap (λ (o : Outcome). o.map) (success_of l w e)
 
-      go : (b : Bool) → AtMost (suc C.top) (var c) b → cond b Absent (image_in (outcome l).map c) ≡ image_in w.images c
+      go : (b : Bool) → AtMost (suc C.top) (var c) b → cond b None (image_in (outcome l).map c) ≡ image_in w.images c
       go true (at_most h) = sym (no_image_lem w.images c (get_or-eq_default w.images no_image (omega (arith, inv.size))))
       go false (above h) =
           ap (λ (m : List ℕ). image_in m c) map_is
@@ -249,10 +247,10 @@ module _ (l : Lent) (w : Work) (e : conclusion l ≡ reached w) where
       go (already (net C) (take j w.made) (get_or w.made j no_pair).larger (get_or w.made j no_pair).smaller)
       (already_is (net C) (take j w.made) (get_or w.made j no_pair).larger (get_or w.made j no_pair).smaller) (inv.fresh j k)
     where
-      go : (o : Option ℕ) → Already (net C) (take j w.made) (get_or w.made j no_pair).larger (get_or w.made j no_pair).smaller o → o ≡ none
+      go : (o : Option ℕ) → Already (net C) (take j w.made) (get_or w.made j no_pair).larger (get_or w.made j no_pair).smaller o → o ≡ None
           → get_or w.made i no_pair ≢ get_or w.made j no_pair
-      go none (is_new f n) z q = n on i (omega (arith, length-take j w.made)) (get_or-take j w.made i no_pair h ∙ q)
-      go (some t) a z q = let y : ◌≡◌ {A = ℕ} 0 1 = cc in omega arith
+      go None (is_new f n) z q = n on i (omega (arith, length-take j w.made)) (get_or-take j w.made i no_pair h ∙ q)
+      go (Some t) a z q = let y : ◌≡◌ {A = ℕ} 0 1 = cc in omega arith
 
 -- the walk behind a success, and what the lists hold
 pub record Success (l : Lent) (s : Summary) : Type 0 where
@@ -262,7 +260,7 @@ pub record Success (l : Lent) (s : Summary) : Type 0 where
   pub made : s.made ≡ length work.made
   pub holds : held l s (outcome l) ≡ ordered_of (circuit_of l) work
 
-pub success : (l : Lent) (s : Summary) → (outcome l).answer ≡ Renumbered s → Success l s
+pub success : (l : Lent) (s : Summary) → (outcome l).answer ≡ Ok s → Success l s
 unfolding ordered_of
 success l s e =
     let k = success_from l s e in
@@ -275,7 +273,7 @@ success l s e =
     }
 
 -- the same with the summary answered
-module _ (l : Lent) (s : Summary) (e : (outcome l).answer ≡ Renumbered s) where
+module _ (l : Lent) (s : Summary) (e : (outcome l).answer ≡ Ok s) where
   abbrev from : Success l s
   from = success l s e
 

@@ -1,6 +1,7 @@
 -- The demands leave nothing open but the numbering: two outcomes of one lending that meet them and give one answer are the same, cell by cell, if after a
 -- success the map's cells are the same. For a refusal says what each cell is; and after a success images, words and zeros are read off the map.
 -- Assumes nothing.
+use Rattle.std.specs.Prelude.{Ok, Err}
 use Prim.Native.Nat.{ℕ, suc, ◌+◌, ◌*◌, ◌/◌, ◌%◌, ◌<◌, ◌≤◌, min, max}
 use mathlib.Core.Path.{◌≡◌, refl, sym, ◌∙◌, ap, ap₂, subst}
 use mathlib.Core.Logic.{◌⊎◌, inl, inr}
@@ -10,8 +11,7 @@ use lib.ListN.{length, get_or}
 use Rattle.lit.specs.Code.{var, literal, flipped}
 use Rattle.circuit.specs.declared.Refusal.{Refusal}
 use Rattle.circuit.specs.declared.Summary.{Summary}
-use Rattle.circuit.specs.declared.Answer.{Answer}
-use Rattle.circuit.specs.declared.Answer.TheVariants.{Renumbered, Refused}
+use Rattle.circuit.specs.Answer.{Answer}
 use Rattle.circuit.specs.Graph.{Gate}
 use Rattle.circuit.specs.Circuit.{Circuit}
 use Rattle.circuit.specs.Outcome.{Lent, Outcome, circuit_of, outcome_of, held}
@@ -54,7 +54,7 @@ module _ (l : Lent) (o o' : Outcome) (d : Demands l (circuit_of l) o) (d' : Dema
   C = circuit_of l
 
   -- a refusal: every list kept, or cleared as far as it is named
-  after-refusal : (r : Refusal) → o.answer ≡ Refused r → Early r ⊎ Late r → o ≡ o'
+  after-refusal : (r : Refusal) → o.answer ≡ Err r → Early r ⊎ Late r → o ≡ o'
   after-refusal r e (inl h) =
       let p = d.early_refusals_keep r e h in
       let q = d'.early_refusals_keep r (sym one ∙ e) h in
@@ -69,7 +69,7 @@ module _ (l : Lent) (o o' : Outcome) (d : Demands l (circuit_of l) o) (d' : Dema
       (same_filled _ _ l.scratch _ _ p.scratch q.scratch)
 
   -- a success: all else is read off the map
-  module _ (s : Summary) (e : o.answer ≡ Renumbered s) (same : (v : ℕ) → v ≤ C.top → get_or o.map v 0 ≡ get_or o'.map v 0) where
+  module _ (s : Summary) (e : o.answer ≡ Ok s) (same : (v : ℕ) → v ≤ C.top → get_or o.map v 0 ≡ get_or o'.map v 0) where
     abbrev here : AfterSuccess l C o s (held l s o)
     here = d.success s e
 
@@ -162,9 +162,9 @@ module _ (l : Lent) (o o' : Outcome) (d : Demands l (circuit_of l) o) (d' : Dema
 
 -- two outcomes that meet the demands are one, if they give one answer and, after a success, hold one map
 pub told : (l : Lent) (o o' : Outcome) → Demands l (circuit_of l) o → Demands l (circuit_of l) o' → o.answer ≡ o'.answer
-    → ((s : Summary) → o.answer ≡ Renumbered s → (v : ℕ) → v ≤ (circuit_of l).top → get_or o.map v 0 ≡ get_or o'.map v 0) → o ≡ o'
+    → ((s : Summary) → o.answer ≡ Ok s → (v : ℕ) → v ≤ (circuit_of l).top → get_or o.map v 0 ≡ get_or o'.map v 0) → o ≡ o'
 told l o o' d d' one same = go o.answer refl
   where
     go : (a : Answer) → o.answer ≡ a → o ≡ o'
-    go (Renumbered s) e = after-success l o o' d d' one s e (same s e)
-    go (Refused r) e = after-refusal l o o' d d' one r e (d.early_or_late r)
+    go (Ok s) e = after-success l o o' d d' one s e (same s e)
+    go (Err r) e = after-refusal l o o' d d' one r e (d.early_or_late r)

@@ -1,18 +1,17 @@
 -- An ordered circuit whose gates are each new where they stand comes out of the walk of its own gates as it went in (`again`), by induction on the gates:
 -- when a gate's turn comes its inputs go to themselves, so it is settled as a new gate with its own code. The start, next states and roots are those of
 -- proofs/Second.antt. Assumes nothing.
+use Rattle.std.specs.Prelude.{Option, Some, None}
+use Rattle.lit.specs.declared.Lit.{Lit}
 use Prim.Native.Nat.{ℕ, zero, suc, ◌+◌, ◌-◌, ◌*◌, ◌/◌, ◌<◌, ◌≤◌, min, max}
 use mathlib.Core.Path.{◌≡◌, refl, sym, ◌∙◌, ap, ap₂, subst}
 use mathlib.Core.Bool.{Bool, true, false, cond}
-use mathlib.Core.Option.{Option, some}
 use mathlib.Core.List.{List, [], ◌∷◌, ◌++◌}
 use native.Mathlib.Omega.{arith}
 use lib.Dec.{eqb}
 use lib.ListN.{length, get_or, take, length-take}
 use lib.Seq.{take-suc}
 use Rattle.lit.specs.Code.{var, literal}
-use Rattle.circuit.specs.declared.Image.{Image}
-use Rattle.circuit.specs.declared.Image.TheVariants.{Absent, Code}
 use Rattle.circuit.specs.Graph.{Gate, gate_for}
 use Rattle.circuit.specs.Map.{no_image, image_in, code_of, store}
 use Rattle.circuit.specs.Walk.{Net, source_count, Pair, Work, Out, reached, first_code, next_code, already, settle_as, settle_on, settle, look, look_at, is_middle, answer, and_then, through_inputs, no_room, walk, stack_room, walk_all}
@@ -27,7 +26,7 @@ abbrev gate_at : ℕ → List Pair → ℕ → Gate
 gate_at t ps j = record { output = t + 2 * j; first = (get_or ps j no_pair).larger; second = (get_or ps j no_pair).smaller }
 
 -- the gate found for the j-th output is the j-th
-find_gate : (k : ℕ) (ps : List Pair) (j : ℕ) → j < length ps → gate_for (gates_from (2 * k) ps) (k + j) ≡ some (gate_at (2 * k) ps j)
+find_gate : (k : ℕ) (ps : List Pair) (j : ℕ) → j < length ps → gate_for (gates_from (2 * k) ps) (k + j) ≡ Some (gate_at (2 * k) ps j)
 find_gate k [] j h = absurd (omega arith)
 find_gate k (p ∷ ps) j h = go j h (eqb (2 * k / 2) (k + j)) (same_test (2 * k / 2) (k + j)) (λ i l. find_gate (suc k) ps i l)
   where
@@ -35,25 +34,25 @@ find_gate k (p ∷ ps) j h = go j h (eqb (2 * k / 2) (k + j)) (same_test (2 * k 
     e = omega arith
 
     go : (j : ℕ) → j < length (p ∷ ps) → (b : Bool) → Same (2 * k / 2) (k + j) b
-        → ((i : ℕ) → i < length ps → gate_for (gates_from (2 * suc k) ps) (suc k + i) ≡ some (gate_at (2 * suc k) ps i))
-        → cond b (some (record { output = 2 * k; first = p.larger; second = p.smaller })) (gate_for (gates_from (2 * k + 2) ps) (k + j)) ≡ some
+        → ((i : ℕ) → i < length ps → gate_for (gates_from (2 * suc k) ps) (suc k + i) ≡ Some (gate_at (2 * suc k) ps i))
+        → cond b (Some (record { output = 2 * k; first = p.larger; second = p.smaller })) (gate_for (gates_from (2 * k + 2) ps) (k + j)) ≡ Some
         (gate_at (2 * k) (p ∷ ps) j)
-    go zero h true s rec = let z : 2 * k ≡ 2 * k + 2 * 0 = omega arith in ap (λ (o : ℕ). some (record { output = o; first = p.larger; second = p.smaller })) z
+    go zero h true s rec = let z : 2 * k ≡ 2 * k + 2 * 0 = omega arith in ap (λ (o : ℕ). Some (record { output = o; first = p.larger; second = p.smaller })) z
     go zero h false (other n) rec = absurd (n (omega arith))
     go (suc j) h true (same n) rec = absurd (omega arith)
     go (suc j) h false s rec =
         let i : k + suc j ≡ suc k + j = omega arith in
         let z : 2 * suc k + 2 * j ≡ 2 * k + 2 * suc j = omega arith in
         ap₂ (λ (t v : ℕ). gate_for (gates_from t ps) v) e i ∙ rec j (omega arith)
-        ∙ ap (λ (o : ℕ). some (record { output = o; first = (get_or ps j no_pair).larger; second = (get_or ps j no_pair).smaller })) z
+        ∙ ap (λ (o : ℕ). Some (record { output = o; first = (get_or ps j no_pair).larger; second = (get_or ps j no_pair).smaller })) z
 
 -- a literal with an image is walked at once
-pub walk_mapped : (N : Net) (room : ℕ) (path : List ℕ) (w : Work) (c t : ℕ) → image_in w.images c ≡ Code (literal t) → walk N room path w c ≡ reached w
+pub walk_mapped : (N : Net) (room : ℕ) (path : List ℕ) (w : Work) (c t : ℕ) → image_in w.images c ≡ Some (literal t) → walk N room path w c ≡ reached w
 unfolding walk look
 walk_mapped N zero path w c t e =
-    ap (λ (x : Image). answer (look_at c x (is_middle path c) (gate_for N.graph.gates (var c))) w (λ g. no_room)) e
+    ap (λ (x : Option Lit). answer (look_at c x (is_middle path c) (gate_for N.graph.gates (var c))) w (λ g. no_room)) e
 walk_mapped N (suc room) path w c t e =
-    ap (λ (x : Image). answer (look_at c x (is_middle path c) (gate_for N.graph.gates (var c))) w
+    ap (λ (x : Option Lit). answer (look_at c x (is_middle path c) (gate_for N.graph.gates (var c))) w
     (λ g. through_inputs N (λ w' c'. walk N room (path ++ (c ∷ [])) w' c') g w)) e
 
 -- after j gates of n sources each variable so far goes to itself, none of the others has an image, and the first j gates are made
@@ -72,7 +71,7 @@ module _ (N : Net) (ps : List Pair) (gates_are : N.graph.gates ≡ gates_from (f
     abbrev g : Gate
     g = gate_at (first_code (source_count N)) ps j
 
-    found_gate : gate_for N.graph.gates (var g.output) ≡ some g
+    found_gate : gate_for N.graph.gates (var g.output) ≡ Some g
     unfolding first_code
     found_gate =
         let z : var g.output ≡ base + j = omega arith in
@@ -82,7 +81,7 @@ module _ (N : Net) (ps : List Pair) (gates_are : N.graph.gates ≡ gates_from (f
     unfolding first_code
     out_high = omega arith
 
-    mapped_itself : (c : ℕ) → c < first_code (source_count N) + 2 * j → image_in w.images c ≡ Code (literal c)
+    mapped_itself : (c : ℕ) → c < first_code (source_count N) + 2 * j → image_in w.images c ≡ Some (literal c)
     unfolding first_code next_code
     mapped_itself c lt = own_image w.images (base + j) (omega (arith, few)) i.identity c (omega arith)
 
@@ -120,9 +119,9 @@ module _ (N : Net) (ps : List Pair) (gates_are : N.graph.gates ≡ gates_from (f
     unfolding walk look through_inputs
     walked_new room =
         let c : ℕ = g.output in
-        let e : image_in w.images c ≡ Absent = no_image_lem w.images c (i.identity.high (var c) out_high) in
+        let e : image_in w.images c ≡ None = no_image_lem w.images c (i.identity.high (var c) out_high) in
         let rec : Work → ℕ → Out = λ w₁ c₁. walk N room (c ∷ []) w₁ c₁ in
-        ap₂ (λ (x : Image) (y : Option Gate). answer (look_at c x false y) w
+        ap₂ (λ (x : Option Lit) (y : Option Gate). answer (look_at c x false y) w
         (λ g₁. and_then (rec w g₁.first) (λ w₁. and_then (rec w₁ g₁.second) (λ w₂. reached (settle N w₂ g₁))))) e found_gate
         ∙ ap (λ (o : Out). and_then o (λ w₁. and_then (rec w₁ lo) (λ w₂. reached (settle N w₂ g))))
         (walk_mapped N room (c ∷ []) w hi hi (mapped_itself hi (order j h).1))

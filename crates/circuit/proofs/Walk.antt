@@ -1,18 +1,17 @@
 -- The walk keeps its work in order, gives the literal walked an image, and where it stops the refusal is true. By induction on the room left: a
 -- gate gets no image while its own inputs are walked, since all that is new is reached from the input, and what has an image reaches no cycle.
 -- Assumes nothing.
+use Rattle.std.specs.Prelude.{Option, Some, None}
+use Rattle.lit.specs.declared.Lit.{Lit}
 use Prim.Native.Nat.{ℕ, zero, suc, ◌/◌, ◌<◌}
 use mathlib.Core.Path.{◌≡◌, refl, sym, ◌∙◌, subst, subst⁻¹}
 use mathlib.Core.Logic.{◌⊎◌, inl, inr, ◌≢◌}
 use mathlib.Core.Bool.{Bool, true, false}
-use mathlib.Core.Option.{Option}
 use mathlib.Core.List.{List, [], ◌∷◌, ◌++◌, map}
 use native.Mathlib.Omega.{arith}
 use lib.Dec.{eqb}
 use lib.ListN.{length, get_or}
 use Rattle.lit.specs.Code.{var, literal}
-use Rattle.circuit.specs.declared.Image.{Image}
-use Rattle.circuit.specs.declared.Image.TheVariants.{Absent, Code}
 use Rattle.circuit.specs.declared.Refusal.{Refusal}
 use Rattle.circuit.specs.declared.Refusal.TheVariants.{TooBig, Misshapen, Short, Over, Reset, Again, StateAgain, Undefined, Cycle}
 use Rattle.circuit.specs.Graph.{In, Gate, Graph, out_var, defined, DefinedOnce, gate_for, Step, to_first, to_second, Reach, here, via, Loop, Uses, itself}
@@ -82,12 +81,12 @@ looking N path w c =
     go (image_in w.images c) (looked w.images c) (is_middle path c) (middle_test path c) (gate_for N.graph.gates (var c))
     (gate_found N.graph.gates (var c))
   where
-    go : (i : Image) → Looked (entry w.images (var c)) c i → (b : Bool) → Mid path c b → (o : Option Gate) → GateFound N.graph.gates (var c) o
+    go : (i : Option Lit) → Looked (entry w.images (var c)) c i → (b : Bool) → Mid path c b → (o : Option Gate) → GateFound N.graph.gates (var c) o
         → Looking N path w c (look_at c i b o)
-    go (Code t) (found n) b m o f = has_image n
-    go Absent (gone e) true (mid h) o f = on_path h
-    go Absent (gone e) false (not_mid q) o (no_gate n) = is_undefined e n
-    go Absent (gone e) false (not_mid q) o (a_gate g h k) = at_gate g e h k q
+    go (Some t) (found n) b m o f = has_image n
+    go None (gone e) true (mid h) o f = on_path h
+    go None (gone e) false (not_mid q) o (no_gate n) = is_undefined e n
+    go None (gone e) false (not_mid q) o (a_gate g h k) = at_gate g e h k q
 
 Grown-refl : {G : Graph} {u : ℕ} (w : Work) → Grown G w w u
 Grown-refl w = record { keeps = λ v n. refl; news = λ v e n. absurd (n e) }

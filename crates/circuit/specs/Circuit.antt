@@ -1,6 +1,5 @@
 -- A circuit as it is given, checks 4, 22, 5 and 6, and renumbering. Assumes nothing.
-use Rattle.std.specs.Prelude.{ℕ, ◌+◌, ◌*◌, Bool, false, cond, ◌||◌, List, [], ◌∷◌, ◌++◌, map, eqb, leb, replicate}
-use Rattle.std.proofs.Math.Option.{Option, none, some}
+use Rattle.std.specs.Prelude.{ℕ, ◌+◌, ◌*◌, Bool, false, cond, ◌||◌, List, [], ◌∷◌, ◌++◌, map, eqb, leb, replicate, Option, Some, None}
 use Rattle.lit.specs.Code.{var, literal}
 use Rattle.lit.specs.declared.Lit.{Lit}
 use Rattle.circuit.specs.declared.Refusal.{Refusal}
@@ -53,8 +52,8 @@ codes C = C.inputs ++ (gate_codes C.gates ++ (latch_codes C.states C.nexts C.res
 
 -- the first code of the list over the bound
 abbrev pub first_over : ℕ → List ℕ → Option ℕ
-first_over bound [] = none
-first_over bound (c ∷ cs) = cond (leb c bound) (first_over bound cs) (some c)
+first_over bound [] = None
+first_over bound (c ∷ cs) = cond (leb c bound) (first_over bound cs) (Some c)
 
 -- check 22: a latch's reset is 0, 1, or the latch's own literal as written, which says that it is unset
 abbrev pub is_reset : ℕ → ℕ → Bool
@@ -62,9 +61,9 @@ is_reset own r = leb r 1 || eqb r own
 
 -- the first reset of the list that is none of them, the latches' literals beside it
 abbrev pub first_stray : List ℕ → List ℕ → Option ℕ
-first_stray [] rs = none
-first_stray (s ∷ ss) [] = none
-first_stray (s ∷ ss) (r ∷ rs) = cond (is_reset s r) (first_stray ss rs) (some r)
+first_stray [] rs = None
+first_stray (s ∷ ss) [] = None
+first_stray (s ∷ ss) (r ∷ rs) = cond (is_reset s r) (first_stray ss rs) (Some r)
 
 -- checks 5 and 6: x is in the list
 abbrev pub elem : ℕ → List ℕ → Bool
@@ -73,8 +72,8 @@ elem x (y ∷ ys) = eqb x y || elem x ys
 
 -- the first literal of the list whose variable is among those seen or before it
 abbrev pub first_again : List ℕ → List ℕ → Option ℕ
-first_again seen [] = none
-first_again seen (d ∷ ds) = cond (elem (var d) seen) (some d) (first_again (var d ∷ seen) ds)
+first_again seen [] = None
+first_again seen (d ∷ ds) = cond (elem (var d) seen) (Some d) (first_again (var d ∷ seen) ds)
 
 -- what check 5 goes through; check 6 goes through the latch states
 abbrev pub definitions : Circuit → List ℕ
@@ -99,8 +98,8 @@ walk_with room C = walk_all (net C) room (walked C) (start C.top (graph C).sourc
 
 -- a check that found a literal refuses it; else what comes after
 abbrev pub or_refuse : Option ℕ → (Lit → Refusal) → Out → Out
-or_refuse (some c) why out = stopped (why (literal c))
-or_refuse none why out = out
+or_refuse (Some c) why out = stopped (why (literal c))
+or_refuse None why out = out
 
 -- checks 5 and 6 in their order; then the walk, with two entries a gate. None of them sees a reset
 unfoldable pub numbered : Circuit → Out

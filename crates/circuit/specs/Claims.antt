@@ -1,10 +1,8 @@
 -- The words of the customer's demands, which specs/Demands.antt says: of the circuit that is lent, and of an outcome o, which is what is left afterwards.
 -- Assumes nothing.
-use Rattle.std.specs.Prelude.{ℕ, ◌+◌, ◌*◌, ◌/◌, ◌%◌, ◌<◌, ◌≤◌, min, max, ◌≡◌, ◌⊎◌, Bool, true, false, cond, List, [], ◌∷◌, ◌++◌, map, eqb, length, get_or}
-use Rattle.std.proofs.Math.Option.{Option, none, some}
+use Rattle.std.specs.Prelude.{ℕ, ◌+◌, ◌*◌, ◌/◌, ◌%◌, ◌<◌, ◌≤◌, min, max, ◌≡◌, ◌⊎◌, Bool, true, false, cond, List, [], ◌∷◌, ◌++◌, map, eqb, length, get_or, Option, Some, None}
 use Rattle.lit.specs.Code.{var, literal, flipped}
 use Rattle.lit.specs.declared.Lit.{Lit}
-use Rattle.circuit.specs.declared.Image.TheVariants.{Code}
 use Rattle.circuit.specs.declared.Refusal.{Refusal}
 use Rattle.circuit.specs.declared.Refusal.TheVariants.{TooBig, Misshapen, Short, Over, Reset, Again, StateAgain, Undefined, Cycle}
 use Rattle.circuit.specs.declared.Summary.{Summary}
@@ -101,7 +99,7 @@ pub record Passes (l : Lent) : Type 0 where
 
 -- the first value of a latch by its reset: that of 0 is 0, that of 1 is 1, and an unset latch is free. It is a value of the state's literal as written
 abbrev pub first_value : ℕ → Option Bool
-first_value r = cond (eqb r 0) (some false) (cond (eqb r 1) (some true) none)
+first_value r = cond (eqb r 0) (Some false) (cond (eqb r 1) (Some true) None)
 
 -- the literal is walked: with trim off each gate's output, and always each next state and root
 abbrev pub IsWalked : Circuit → ℕ → Type 0
@@ -113,7 +111,7 @@ AllGrounded C = (c : ℕ) → In c (walked C) → Grounded (graph C) (var c)
 
 -- the literal c has the image t in the map afterwards, as a lookup answers it
 abbrev pub HasImage : Lent → Outcome → ℕ → Lit → Type 0
-HasImage l o c t = image_of (circuit_of l).top o.map c ≡ Code t
+HasImage l o c t = image_of (circuit_of l).top o.map c ≡ Some t
 
 -- the variable is the constant's, an input's or a latch's, or is reached from a walked literal
 abbrev pub Named : Circuit → ℕ → Type 0

@@ -2,13 +2,12 @@
 -- afterwards. proofs/Demands.antt proves `Demands` of the outcome that the definition gives, and `aig` of whatever the function `renumber` leaves.
 -- Every cell is told by what
 -- it is; the walk's definition is needed only for the order in which new gates are numbered. The words stand in Claims.antt and Graph.antt. Assumes nothing.
-use Rattle.std.specs.Prelude.{ℕ, ◌+◌, ◌*◌, ◌-◌, ◌<◌, ◌≤◌, ◌≡◌, ◌≢◌, ◌↔◌, ◌⊎◌, Bool, true, false, length, get_or}
+use Rattle.std.specs.Prelude.{ℕ, ◌+◌, ◌*◌, ◌-◌, ◌<◌, ◌≤◌, ◌≡◌, ◌≢◌, ◌↔◌, ◌⊎◌, Bool, true, false, length, get_or, Ok, Err}
 use Rattle.lit.specs.Code.{var, literal}
 use Rattle.lit.specs.declared.Lit.{Lit}
 use Rattle.circuit.specs.declared.Refusal.{Refusal}
 use Rattle.circuit.specs.declared.Refusal.TheVariants.{Undefined, Cycle}
 use Rattle.circuit.specs.declared.Summary.{Summary}
-use Rattle.circuit.specs.declared.Answer.TheVariants.{Renumbered, Refused}
 use Rattle.circuit.specs.Graph.{In, Gate, out_var, DefinedOnce}
 use Rattle.circuit.specs.Map.{no_image}
 use Rattle.circuit.specs.Walk.{Work, Out, reached, stopped, no_room}
@@ -64,19 +63,19 @@ pub record AfterSuccess (l : Lent) (C : Circuit) (o : Outcome) (s : Summary) (D 
 pub record Demands (l : Lent) (C : Circuit) (o : Outcome) : Type 0 where
   -- what passes checks 1 to 4 and 22 succeeds exactly when no variable is defined twice, counting the constant, every literal reached from the walked ones is
   -- defined, and no gate so reached reaches itself
-  pub succeeds_exactly : Passes l → ((s : Summary) × (o.answer ≡ Renumbered s)) ↔ (DefinedOnce (graph C) × AllGrounded C)
+  pub succeeds_exactly : Passes l → ((s : Summary) × (o.answer ≡ Ok s)) ↔ (DefinedOnce (graph C) × AllGrounded C)
   -- a refusal is true: it is the first check that is not passed, it names the first literal at fault in the check's order, 7 names a literal that is used
   -- and not defined, and 8 one that is used and reaches itself
-  pub refusals_true : (r : Refusal) → o.answer ≡ Refused r → IsTrue l r
+  pub refusals_true : (r : Refusal) → o.answer ≡ Err r → IsTrue l r
   -- every refusal is an early or a late one: after 1 to 4 and 22 every cell holds what it held; after the others the cells named hold the word for no
   -- image or 0, and all others what they held
   pub early_or_late : (r : Refusal) → Early r ⊎ Late r
-  pub early_refusals_keep : (r : Refusal) → o.answer ≡ Refused r → Early r → KeepsAll l o
-  pub late_refusals_clear : (r : Refusal) → o.answer ≡ Refused r → Late r → Clears l C o
+  pub early_refusals_keep : (r : Refusal) → o.answer ≡ Err r → Early r → KeepsAll l o
+  pub late_refusals_clear : (r : Refusal) → o.answer ≡ Err r → Late r → Clears l C o
   -- whatever the answer, each written list keeps its length, and its cells past those named
   pub past_kept : KeepsPast l C o
   -- after a success the lists hold an ordered circuit
-  pub success : (s : Summary) → o.answer ≡ Renumbered s → AfterSuccess l C o s (held l s o)
+  pub success : (s : Summary) → o.answer ≡ Ok s → AfterSuccess l C o s (held l s o)
 
 -- a walk ends before its room does: by success, by 7 or by 8
 pub data EndsFirst : Out → Type 0 where

@@ -1,6 +1,5 @@
 -- Circuits as graphs of gates: what is defined, what is reached, and what a literal means. After the AIGER papers. Assumes nothing.
-use Rattle.std.specs.Prelude.{ℕ, ◌<◌, ◌≡◌, ◌⊎◌, Bool, false, not, cond, ◌&&◌, List, [], ◌∷◌, ◌++◌, map, eqb, length, get_or}
-use Rattle.std.proofs.Math.Option.{Option, none, some}
+use Rattle.std.specs.Prelude.{ℕ, ◌<◌, ◌≡◌, ◌⊎◌, Bool, false, not, cond, ◌&&◌, List, [], ◌∷◌, ◌++◌, map, eqb, length, get_or, Option, Some, None}
 use Rattle.lit.specs.Code.{var, flipped}
 
 -- x stands in the list
@@ -39,8 +38,8 @@ DefinedOnce G = Distinct (defined G)
 
 -- the gate that defines a variable, by either sign
 abbrev pub gate_for : List Gate → ℕ → Option Gate
-gate_for [] v = none
-gate_for (g ∷ gs) v = cond (eqb (out_var g) v) (some g) (gate_for gs v)
+gate_for [] v = None
+gate_for (g ∷ gs) v = cond (eqb (out_var g) v) (Some g) (gate_for gs v)
 
 -- from a gate's variable to that of one of its inputs
 pub data Step (G : Graph) (u v : ℕ) : Type 0 where

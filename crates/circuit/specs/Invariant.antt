@@ -1,7 +1,6 @@
 -- What the walk keeps true of its work, and of the machine that does it: words of the contracts inside the renumbering and of proofs. That it is kept is
 -- proved in proofs/Invariant.antt and proofs/Machine.antt. Assumes nothing.
-use Rattle.std.specs.Prelude.{ℕ, ◌+◌, ◌*◌, ◌-◌, ◌<◌, ◌≤◌, min, max, ◌≡◌, ◌⊎◌, ◌≢◌, Bool, true, false, cond, ◌&&◌, List, [], ◌∷◌, map, eqb, length, get_or, take}
-use Rattle.std.proofs.Math.Option.{Option, none, some}
+use Rattle.std.specs.Prelude.{ℕ, ◌+◌, ◌*◌, ◌-◌, ◌<◌, ◌≤◌, min, max, ◌≡◌, ◌⊎◌, ◌≢◌, Bool, true, false, cond, ◌&&◌, List, [], ◌∷◌, map, eqb, length, get_or, take, Option, Some, None}
 use Rattle.lit.specs.Code.{var, is_odd, flipped, literal}
 use Rattle.circuit.specs.declared.Refusal.TheVariants.{Undefined}
 use Rattle.circuit.specs.Refusals.{refusal_number}
@@ -42,12 +41,12 @@ pair hi lo = record { larger = hi; smaller = lo }
 -- the images hi and lo of a gate's inputs, larger first, make t: by a folding row, if folding is on and one takes them, or else as a gate made
 abbrev pub Makes : Net → List Pair → ℕ → ℕ → ℕ → Type 0
 Makes N made hi lo t =
-    (folded_if N.fold hi lo ≡ some t)
-    ⊎ ((j : ℕ) × (j < length made) × (t ≡ first_code (source_count N) + 2 * j) × (get_or made j no_pair ≡ pair hi lo) × (folded_if N.fold hi lo ≡ none))
+    (folded_if N.fold hi lo ≡ Some t)
+    ⊎ ((j : ℕ) × (j < length made) × (t ≡ first_code (source_count N) + 2 * j) × (get_or made j no_pair ≡ pair hi lo) × (folded_if N.fold hi lo ≡ None))
 
 -- each pair was made because nothing stood for it already
 abbrev pub Fresh : Net → List Pair → Type 0
-Fresh N made = (j : ℕ) → j < length made → already N (take j made) (get_or made j no_pair).larger (get_or made j no_pair).smaller ≡ none
+Fresh N made = (j : ℕ) → j < length made → already N (take j made) (get_or made j no_pair).larger (get_or made j no_pair).smaller ≡ None
 
 -- 1 for an entry that holds a code
 unfoldable pub one_of : ℕ → ℕ
@@ -81,7 +80,7 @@ RuleFor N m made g = Makes N made (larger_in m g) (smaller_in m g) (code_in m g.
 
 -- no folding row takes the gate's inputs' images
 abbrev pub Unfolded : Net → List ℕ → Gate → Type 0
-Unfolded N m g = folded_if N.fold (larger_in m g) (smaller_in m g) ≡ none
+Unfolded N m g = folded_if N.fold (larger_in m g) (smaller_in m g) ≡ None
 
 -- the j-th gate made is the image of a gate that no folding row took
 pub record FromGate (N : Net) (m : List ℕ) (made : List Pair) (j : ℕ) : Type 0 where
@@ -123,9 +122,9 @@ pub record Inv (N : Net) (top : ℕ) (w : Work) : Type 0 where
 
 -- what is left to do for a literal once the input under way has its image
 abbrev pub rest_with : Net → ℕ → List ℕ → ℕ → Work → Bool → Option Gate → Out
-rest_with N room path c w on_second none = stopped (Undefined (literal c))
-rest_with N room path c w false (some g) = and_then (walk N room path w g.second) (λ w₂. reached (settle N w₂ g))
-rest_with N room path c w true (some g) = reached (settle N w g)
+rest_with N room path c w on_second None = stopped (Undefined (literal c))
+rest_with N room path c w false (Some g) = and_then (walk N room path w g.second) (λ w₂. reached (settle N w₂ g))
+rest_with N room path c w true (Some g) = reached (settle N w g)
 
 -- what the whole comes to, where the walk under way comes to o
 unfoldable pub resume : Net → List Frame → Out → Out

@@ -1,9 +1,8 @@
 -- How examples are written down: small circuits with lent lists that are one cell longer than they need be and hold 77 in every cell, and the outcomes
 -- expected, in which that one cell still holds it. Assumes nothing.
-use Rattle.std.specs.Prelude.{ℕ, ◌+◌, ◌*◌, ◌-◌, ◌/◌, Bool, true, false, List, [], ◌∷◌, ◌++◌, length, replicate}
+use Rattle.std.specs.Prelude.{ℕ, ◌+◌, ◌*◌, ◌-◌, ◌/◌, Bool, true, false, List, [], ◌∷◌, ◌++◌, length, replicate, Ok, Err}
 use Rattle.lit.specs.Code.{variable}
 use Rattle.circuit.specs.declared.Refusal.{Refusal}
-use Rattle.circuit.specs.declared.Answer.TheVariants.{Renumbered, Refused}
 use Rattle.circuit.specs.Outcome.{Lent, Outcome, lent_of, outcome_of}
 
 -- the flags trim, hash and fold
@@ -57,7 +56,7 @@ circuit f top inputs gates roots = lend f top inputs [] [] gates (length roots �
 -- success with a number of gates made and a new largest variable: map, next images, reset images, gates out (as far as written), root images
 abbrev pub succeeds_with : Lent → ℕ → ℕ → List ℕ → List ℕ → List ℕ → List ℕ → List ℕ → Outcome
 succeeds_with l made top map nexts resets gates roots =
-    outcome_of (Renumbered (record { made = made; top = variable top })) (wrote map) (wrote nexts) (wrote resets) (wrote roots) (wrote gates)
+    outcome_of (Ok (record { made = made; top = variable top })) (wrote map) (wrote nexts) (wrote resets) (wrote roots) (wrote gates)
     (wrote (replicate (length l.scratch - 1) 0))
 
 -- the same with every reset image 0
@@ -67,12 +66,12 @@ succeeds l made top map nexts gates roots = succeeds_with l made top map nexts (
 -- a refusal of 5 to 8
 abbrev pub clears : Lent → Refusal → Outcome
 clears l why =
-    outcome_of (Refused why) (wrote (replicate (length l.map - 1) 4294967295)) (wrote (replicate (length l.next_images - 1) 0))
+    outcome_of (Err why) (wrote (replicate (length l.map - 1) 4294967295)) (wrote (replicate (length l.next_images - 1) 0))
     (wrote (replicate (length l.reset_images - 1) 0)) (wrote (replicate (length l.root_images - 1) 0)) (wrote (replicate (length l.gates_out - 1) 0)) (wrote (replicate (length l.scratch - 1) 0))
 
 -- a refusal of 1 to 4 or 22
 abbrev pub leaves : Lent → Refusal → Outcome
-leaves l why = outcome_of (Refused why) l.map l.next_images l.reset_images l.root_images l.gates_out l.scratch
+leaves l why = outcome_of (Err why) l.map l.next_images l.reset_images l.root_images l.gates_out l.scratch
 
 -- an example: what is lent comes to this
 pub record Example : Type 0 where

@@ -1,4 +1,5 @@
 pub mod Refusals
+pub mod Answer
 pub mod Graph
 pub mod Map
 pub mod Walk
@@ -12,3 +13,4 @@ pub mod Resets
 pub mod Machine
 pub mod Invariant
 pub mod Lending
+pub mod Passed

@@ -1,8 +1,7 @@
 -- The walk as a machine, a step at a time, with a stack of literals that no limit is set to: what a loop does. That it comes to what `walk` comes to, that
 -- each step brings it nearer to its end, and what stays true on the way, as that two entries a gate are room for it, is proved in proofs/Machine.antt.
 -- Assumes nothing.
-use Rattle.std.specs.Prelude.{ℕ, ◌+◌, ◌*◌, Bool, true, false, cond, List, [], ◌∷◌, ◌++◌}
-use Rattle.std.proofs.Math.Option.{Option, none, some}
+use Rattle.std.specs.Prelude.{ℕ, ◌+◌, ◌*◌, Bool, true, false, cond, List, [], ◌∷◌, ◌++◌, Option, Some, None}
 use Rattle.circuit.specs.Graph.{Gate, gate_for}
 use Rattle.lit.specs.Code.{var, literal}
 use Rattle.circuit.specs.declared.Refusal.TheVariants.{Undefined}
@@ -46,9 +45,9 @@ step_look N fs w c (enter g) = goes (record { frames = pushed fs c; at = transfe
 
 -- back at the newest frame, whose literal is c: on to the second input, or settle the gate
 unfoldable pub step_back : Net → ℕ → List Frame → Work → Bool → Option Gate → Next
-step_back N c fs w on_second none = ends (stopped (Undefined (literal c)))
-step_back N c fs w false (some g) = goes (record { frames = record { lit = c; on_second = true } ∷ fs; at = transfer g.second; work = w })
-step_back N c fs w true (some g) = goes (record { frames = fs; at = back; work = settle N w g })
+step_back N c fs w on_second None = ends (stopped (Undefined (literal c)))
+step_back N c fs w false (Some g) = goes (record { frames = record { lit = c; on_second = true } ∷ fs; at = transfer g.second; work = w })
+step_back N c fs w true (Some g) = goes (record { frames = fs; at = back; work = settle N w g })
 
 -- one step, by where the machine is
 unfoldable pub step_at : Net → List Frame → At → Work → Next

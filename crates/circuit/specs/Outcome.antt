@@ -1,11 +1,10 @@
 -- The whole of renumbering as one function of what is lent: the answer, and each lent list afterwards. Assumes nothing.
-use Rattle.std.specs.Prelude.{ℕ, ◌+◌, ◌*◌, ◌-◌, ◌%◌, Bool, true, false, cond, not, ◌||◌, List, [], ◌∷◌, ◌++◌, eqb, leb, ltb, length, drop, take, replicate}
+use Rattle.std.specs.Prelude.{ℕ, ◌+◌, ◌*◌, ◌-◌, ◌%◌, Bool, true, false, cond, not, ◌||◌, List, [], ◌∷◌, ◌++◌, eqb, leb, ltb, length, drop, take, replicate, Ok, Err}
 use Rattle.lit.specs.Code.{variable}
 use Rattle.circuit.specs.declared.Refusal.{Refusal}
 use Rattle.circuit.specs.declared.Refusal.TheVariants.{TooBig, Misshapen, Short}
 use Rattle.circuit.specs.declared.Summary.{Summary}
-use Rattle.circuit.specs.declared.Answer.{Answer}
-use Rattle.circuit.specs.declared.Answer.TheVariants.{Renumbered, Refused}
+use Rattle.circuit.specs.Answer.{Answer}
 use Rattle.circuit.specs.declared.CircuitRecord.{CircuitRecord}
 use Rattle.circuit.specs.Refusals.{refusal_number}
 use Rattle.circuit.specs.Graph.{Gate}
@@ -166,20 +165,20 @@ summary_of O = record { made = length O.gates; top = variable (sources_of O + le
 -- after success: the map, the images, the gates made and zeros up to as many gates as there were, and zeros in the scratch
 abbrev pub written : Lent → Circuit → List ℕ → Ordered → Outcome
 written l C images O =
-    outcome_of (Renumbered (summary_of O)) (onto images l.map) (onto O.nexts l.next_images) (onto O.resets l.reset_images)
+    outcome_of (Ok (summary_of O)) (onto images l.map) (onto O.nexts l.next_images) (onto O.resets l.reset_images)
     (onto O.roots l.root_images)
     (onto (pair_words O.gates ++ zeros (2 * (length C.gates - length O.gates))) l.gates_out) (onto (zeros (scratch_words C)) l.scratch)
 
 -- after refusals 5 to 8: no images in the map, and zeros in the other lists
 abbrev pub cleared : Lent → Circuit → Refusal → Outcome
 cleared l C why =
-    outcome_of (Refused why) (onto (replicate (map_words C) no_image) l.map) (onto (zeros (length C.states)) l.next_images)
+    outcome_of (Err why) (onto (replicate (map_words C) no_image) l.map) (onto (zeros (length C.states)) l.next_images)
     (onto (zeros (length C.states)) l.reset_images) (onto (zeros (length C.roots)) l.root_images)
     (onto (zeros (2 * length C.gates)) l.gates_out) (onto (zeros (scratch_words C)) l.scratch)
 
 -- after refusals 1 to 4 and 22: every list as it was lent
 abbrev pub untouched : Lent → Refusal → Outcome
-untouched l why = outcome_of (Refused why) l.map l.next_images l.reset_images l.root_images l.gates_out l.scratch
+untouched l why = outcome_of (Err why) l.map l.next_images l.reset_images l.root_images l.gates_out l.scratch
 
 -- refusals 1 to 4 and 22 come before anything is written
 abbrev pub is_early : Refusal → Bool

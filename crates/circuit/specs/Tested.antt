@@ -1,7 +1,6 @@
 -- Checks 1 to 4 and 22 as renumbering computes them: words that proofs hand on. That they say what `Passes` says is proofs/Demands.antt's `tests_exactly`. Assumes
 -- nothing.
-use Rattle.std.specs.Prelude.{◌+◌, ◌*◌, ◌≡◌, false}
-use Rattle.std.proofs.Math.Option.{none}
+use Rattle.std.specs.Prelude.{◌+◌, ◌*◌, ◌≡◌, false, None}
 use Rattle.circuit.specs.Circuit.{Circuit, codes, first_over, first_stray}
 use Rattle.circuit.specs.Outcome.{Lent, circuit_of, too_big, misshapen, too_short}
 use Rattle.circuit.specs.Claims.{AllWithin}
@@ -15,8 +14,8 @@ pub record Fits (l : Lent) : Type 0 where
 -- and checks 4 and 22 too
 pub record Tested (l : Lent) : Type 0 where
   pub fits : Fits l
-  pub four : first_over (2 * (circuit_of l).top + 1) (codes (circuit_of l)) ≡ none
-  pub twenty_two : first_stray l.states l.resets ≡ none
+  pub four : first_over (2 * (circuit_of l).top + 1) (codes (circuit_of l)) ≡ None
+  pub twenty_two : first_stray l.states l.resets ≡ None
 
 -- check 4 of the one list that it goes through
 abbrev pub InBounds : Circuit → Type 0

@@ -1,10 +1,8 @@
 -- The walk, in document 01's order: a literal's image is found by walking the inputs of its gate first; then the gate is made, or something stands
 -- for it already. Assumes nothing.
-use Rattle.std.specs.Prelude.{ℕ, zero, suc, ◌+◌, ◌*◌, ◌/◌, min, max, Bool, true, false, cond, ◌&&◌, ◌||◌, List, [], ◌∷◌, ◌++◌, eqb, length, get_or}
-use Rattle.std.proofs.Math.Option.{Option, none, some}
+use Rattle.lit.specs.declared.Lit.{Lit}
+use Rattle.std.specs.Prelude.{ℕ, zero, suc, ◌+◌, ◌*◌, ◌/◌, min, max, Bool, true, false, cond, ◌&&◌, ◌||◌, List, [], ◌∷◌, ◌++◌, eqb, length, get_or, Option, Some, None}
 use Rattle.lit.specs.Code.{var, literal}
-use Rattle.circuit.specs.declared.Image.{Image}
-use Rattle.circuit.specs.declared.Image.TheVariants.{Absent, Code}
 use Rattle.circuit.specs.declared.Refusal.{Refusal}
 use Rattle.circuit.specs.declared.Refusal.TheVariants.{TooBig, Undefined, Cycle}
 use Rattle.circuit.specs.Map.{image_in, store, code_of}
@@ -40,24 +38,24 @@ next_code n made = first_code n + 2 * length made
 -- what folding makes of a gate, if anything
 unfoldable pub folded : ℕ → ℕ → Option ℕ
 folded hi lo =
-    cond (eqb hi 0 || eqb lo 0) (some 0) (cond (eqb hi 1 || eqb hi lo) (some lo) (cond (eqb lo 1) (some hi) none))
+    cond (eqb hi 0 || eqb lo 0) (Some 0) (cond (eqb hi 1 || eqb hi lo) (Some lo) (cond (eqb lo 1) (Some hi) None))
 
 -- the first that is there
 abbrev pub or_else : Option ℕ → Option ℕ → Option ℕ
-or_else none other = other
-or_else (some t) other = some t
+or_else None other = other
+or_else (Some t) other = Some t
 
 -- the code of a gate made with this pair, if there is one; the first in the list has the code t
 abbrev pub made_before : List Pair → ℕ → ℕ → ℕ → Option ℕ
-made_before [] t hi lo = none
-made_before (p ∷ ps) t hi lo = or_else (made_before ps (t + 2) hi lo) (cond (eqb p.larger hi && eqb p.smaller lo) (some t) none)
+made_before [] t hi lo = None
+made_before (p ∷ ps) t hi lo = or_else (made_before ps (t + 2) hi lo) (cond (eqb p.larger hi && eqb p.smaller lo) (Some t) None)
 
 -- folding, and the search among the gates made, as the flags allow them
 abbrev pub folded_if : Bool → ℕ → ℕ → Option ℕ
-folded_if fold hi lo = cond fold (folded hi lo) none
+folded_if fold hi lo = cond fold (folded hi lo) None
 
 abbrev pub made_if : Bool → List Pair → ℕ → ℕ → ℕ → Option ℕ
-made_if hash made t hi lo = cond hash (made_before made t hi lo) none
+made_if hash made t hi lo = cond hash (made_before made t hi lo) None
 
 -- a code that stands for the AND of two codes already
 unfoldable pub already : Net → List Pair → ℕ → ℕ → Option ℕ
@@ -65,8 +63,8 @@ already N made hi lo = or_else (folded_if N.fold hi lo) (made_if N.hash made (fi
 
 -- the gate output d gets the code that stands for it already, or a new gate
 unfoldable pub settle_as : Net → Work → ℕ → ℕ → ℕ → Option ℕ → Work
-settle_as N w d hi lo (some t) = record { images = store w.images d t; made = w.made }
-settle_as N w d hi lo none =
+settle_as N w d hi lo (Some t) = record { images = store w.images d t; made = w.made }
+settle_as N w d hi lo None =
     record { images = store w.images d (next_code (source_count N) w.made); made = w.made ++ (record { larger = hi; smaller = lo } ∷ []) }
 
 -- a gate whose inputs have the images x and y is settled: larger code first
@@ -94,11 +92,11 @@ is_middle [] c = false
 is_middle (p ∷ ps) c = eqb (get_or (p ∷ ps) (length (p ∷ ps) / 2) 0) c
 
 -- in this order: an image, a cycle, no gate, a gate
-abbrev pub look_at : ℕ → Image → Bool → Option Gate → Look
-look_at c (Code t) middle g = mapped
-look_at c Absent true g = refused (Cycle (literal c))
-look_at c Absent false none = refused (Undefined (literal c))
-look_at c Absent false (some g) = enter g
+abbrev pub look_at : ℕ → Option Lit → Bool → Option Gate → Look
+look_at c (Some t) middle g = mapped
+look_at c None true g = refused (Cycle (literal c))
+look_at c None false None = refused (Undefined (literal c))
+look_at c None false (Some g) = enter g
 
 -- a look at the literal c
 unfoldable pub look : Net → List ℕ → Work → ℕ → Look

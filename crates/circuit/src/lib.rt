@@ -28,19 +28,6 @@ pub struct Summary {
     pub top: Var,
 }
 
-#[derive(Clone, Copy)]
-pub enum Answer {
-    Renumbered(Summary),
-    Refused(Refusal),
-}
-
-// What a lookup in the map answers.
-#[derive(Clone, Copy)]
-pub enum Image {
-    Absent,
-    Code(Lit),
-}
-
 // A circuit but for its lists: the largest variable, the numbers of outputs, bad states, constraints, fairness and justice literals, the flags.
 #[derive(Clone, Copy)]
 pub struct CircuitRecord {
@@ -49,4 +36,27 @@ pub struct CircuitRecord {
     pub trim: bool,
     pub hash: bool,
     pub fold: bool,
+}
+
+// The lists of a circuit, which are only read: inputs, the latches' states, next states and resets side by side, gates three words each, and roots in
+// walk order.
+#[derive(Clone, Copy)]
+pub struct CircuitLists<'a> {
+    pub inputs: &'a [u32],
+    pub states: &'a [u32],
+    pub nexts: &'a [u32],
+    pub resets: &'a [u32],
+    pub gates: &'a [u32],
+    pub roots: &'a [u32],
+}
+
+// The lists that renumbering writes.
+#[derive(Drop)]
+pub struct CircuitRoom<'a> {
+    pub map: &'a mut [u32],
+    pub next_images: &'a mut [u32],
+    pub reset_images: &'a mut [u32],
+    pub root_images: &'a mut [u32],
+    pub gates_out: &'a mut [u32],
+    pub scratch: &'a mut [u32],
 }

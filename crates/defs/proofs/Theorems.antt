@@ -6,5 +6,5 @@ use Rattle.defs.specs.Define.{Judged}
 use Rattle.defs.proofs.define_all.Kinds as all_kinds
 use Rattle.defs.proofs.define_all.Reads as all-contract
 
-pub one_define_all : DeterminesCells 4 all_kinds.ps all_kinds.r all-contract.Learnt (λ κs e. e.0.now)
+pub one_define_all : DeterminesCells 3 all_kinds.ps all_kinds.r all-contract.Learnt (λ κs e. e.0.now)
 one_define_all κs a x y e f p q = (ap (λ (j : Judged). j.said) (p ∙ sym q), ap (λ (j : Judged). j.words) (p ∙ sym q))

@@ -1,8 +1,6 @@
 -- What reading one delta into nine lent bytes answers, and what it leaves in them. Assumes nothing.
-use Rattle.std.specs.Prelude.{ℕ, zero, suc, ◌/◌, ◌%◌, cond, List, [], ◌∷◌, ◌++◌, ltb, length, drop}
-use Rattle.token.specs.Answer.{reason_number, delta_at}
-use Rattle.token.specs.declared.Token.{Token}
-use Rattle.token.specs.declared.Token.TheVariants.{Value, Refused}
+use Rattle.std.specs.Prelude.{ℕ, zero, suc, ◌/◌, ◌%◌, cond, List, [], ◌∷◌, ◌++◌, ltb, length, drop, Ok, Err}
+use Rattle.token.specs.Answer.{Token, token_number, delta_at}
 
 -- the k low bytes of a number, the lowest first
 abbrev pub low_bytes : ℕ → ℕ → List ℕ
@@ -15,13 +13,12 @@ nine_bytes v n out = low_bytes 8 v ++ n ∷ drop 9 out
 
 -- 0 for a value, document 01's number for a refusal
 abbrev pub answered : Token → ℕ
-answered (Value v n) = 0
-answered (Refused w p) = reason_number w
+answered = token_number
 
 -- a refusal leaves the lent bytes
 abbrev pub written : Token → List ℕ → List ℕ
-written (Value v n) out = nine_bytes v n out
-written (Refused w p) out = out
+written (Ok code) out = nine_bytes code.value code.used out
+written (Err e) out = out
 
 -- fewer than nine lent bytes is refusal 3, tested first, and leaves them
 unfoldable pub delta_number : List ℕ → ℕ → ℕ → List ℕ → ℕ

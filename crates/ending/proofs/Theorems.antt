@@ -9,14 +9,14 @@ use Rattle.ending.proofs.conclude.Kinds as conclude-kinds
 use Rattle.ending.proofs.conclude.Reads as conclude-contract
 
 pub one_conclude :
-    DeterminesCells 12 conclude-kinds.ps conclude-kinds.r conclude-contract.Learnt {A = List ℕ × List ℕ × List ℕ × List ℕ × List ℕ × List ℕ}
+    DeterminesCells 3 conclude-kinds.ps conclude-kinds.r conclude-contract.Learnt {A = List ℕ × List ℕ × List ℕ × List ℕ × List ℕ × List ℕ}
     (λ κs e. (
-      e.1.1.1.1.1.1.1.1.0.now,
-      e.1.1.1.1.1.1.1.1.1.0.now,
-      e.1.1.1.1.1.1.1.1.1.1.0.now,
-      e.1.1.1.1.1.1.1.1.1.1.1.0.now,
-      e.1.1.1.1.1.1.1.1.1.1.1.1.0.now,
-      e.1.1.1.1.1.1.1.1.1.1.1.1.1.0.now,
+      e.1.1.1.0.0.now,
+      e.1.1.1.0.1.0.now,
+      e.1.1.1.0.1.1.0.now,
+      e.1.1.1.0.1.1.1.0.now,
+      e.1.1.1.0.1.1.1.1.0.now,
+      e.1.1.1.0.1.1.1.1.1.0.now,
     ))
 one_conclude κs a x y e f p q = (
   ap (λ (o : Outcome). o.answer) (p ∙ sym q),

@@ -2,31 +2,13 @@
 #![tactic(auto)]
 
 ghost use Rattle.std.specs.Prelude.{◌≡◌, ◌%◌, ◌^◌};
-ghost use Rattle.circuit.specs.Outcome.{left};
-ghost use Rattle.ending.specs.Ending.{made_with, Finished, Cleared, ended};
+ghost use Rattle.circuit.specs.Passed.{lent_in, left_in};
+ghost use Rattle.ending.specs.Ending.{made_with, ended};
 
-use circuit::{Answer, CircuitRecord, Refusal, Summary};
+use circuit::{CircuitLists, CircuitRecord, CircuitRoom, Refusal, Summary};
 use lent::map::NO_IMAGE;
 use lent::words::{fill_front, wide};
 use lit::Var;
-
-// How walks end: with so many gates made, or refused.
-#[derive(Clone, Copy)]
-pub enum Walked {
-    Reached(usize),
-    Stopped(Refusal),
-}
-
-// The words of each lent list that are named.
-#[derive(Clone, Copy)]
-struct Fronts {
-    map: usize,
-    next_images: usize,
-    reset_images: usize,
-    root_images: usize,
-    gates_out: usize,
-    scratch: usize,
-}
 
 // The number's last 32 bits.
 fn low(x: usize) -> u32
@@ -36,142 +18,56 @@ fn low(x: usize) -> u32
 }
 
 // So many gates were made after so many inputs and latches, as far as words hold the numbers.
-fn renumbered(sources: usize, made: usize) -> Answer
+fn renumbered(sources: usize, made: usize) -> Result<Summary, Refusal>
     ensures { result ≡ made_with sources made }
 {
     let made = low(made);
     let top = low(sources % 4294967296 + wide(made));
-    Answer::Renumbered(Summary {
+    Ok(Summary {
         made,
         top: Var::from_index(top),
     })
 }
 
-// The images of next states and roots, the resets of latches after so many inputs, and a clear scratch.
-fn finish(
-    count: usize,
-    inputs: usize,
-    nexts: &[u32],
-    resets: &[u32],
-    roots: &[u32],
-    map: &[u32],
-    next_images: &mut [u32],
-    reset_images: &mut [u32],
-    root_images: &mut [u32],
-    scratch: &mut [u32],
-)
-    ensures { Finished count inputs nexts.now resets.now roots.now map.now
-        next_images.old reset_images.old root_images.old scratch.old
-        next_images.new reset_images.new root_images.new scratch.new }
-{
-    images::images(map, nexts, next_images);
-    images::carry(resets, inputs, reset_images);
-    images::images(map, roots, root_images);
-    fill_front(scratch, count, 0);
-}
-
-// No images in the map, and 0 in the other lists.
-fn clear(
-    fronts: Fronts,
-    map: &mut [u32],
-    next_images: &mut [u32],
-    reset_images: &mut [u32],
-    root_images: &mut [u32],
-    gates_out: &mut [u32],
-    scratch: &mut [u32],
-)
-    ensures { Cleared fronts map.old next_images.old reset_images.old root_images.old
-        gates_out.old scratch.old map.new next_images.new reset_images.new
-        root_images.new gates_out.new scratch.new }
-{
-    fill_front(map, fronts.map, NO_IMAGE);
-    fill_front(next_images, fronts.next_images, 0);
-    fill_front(reset_images, fronts.reset_images, 0);
-    fill_front(root_images, fronts.root_images, 0);
-    fill_front(gates_out, fronts.gates_out, 0);
-    fill_front(scratch, fronts.scratch, 0);
-}
-
-// After the walks: the images, the resets, a clear scratch and the answer of a success; or the refusal, and what it leaves of each lent list.
+// After the walks, with so many gates made or refused: the images, the resets, a clear scratch and the answer of a success; or the refusal, and what it
+// leaves of each lent list.
+#[tactic(auto, using(circuit::proofs::Words::gates_length), unfolding(crate::specs::Ending::ended))]
 pub fn conclude(
-    end: Walked,
+    end: Result<usize, Refusal>,
     circuit: CircuitRecord,
-    inputs: &[u32],
-    states: &[u32],
-    nexts: &[u32],
-    resets: &[u32],
-    gates: &[u32],
-    roots: &[u32],
-    map: &mut [u32],
-    next_images: &mut [u32],
-    reset_images: &mut [u32],
-    root_images: &mut [u32],
-    gates_out: &mut [u32],
-    scratch: &mut [u32],
-) -> Answer
-    ensures { left (record {
-      answer = result;
-      map = map.new;
-      next_images = next_images.new;
-      reset_images = reset_images.new;
-      root_images = root_images.new;
-      gates_out = gates_out.new;
-      scratch = scratch.new;
-    }) ≡ ended end (record {
-      circuit = circuit;
-      inputs = inputs.now;
-      states = states.now;
-      nexts = nexts.now;
-      resets = resets.now;
-      gates = gates.now;
-      roots = roots.now;
-      map = map.old;
-      next_images = next_images.old;
-      reset_images = reset_images.old;
-      root_images = root_images.old;
-      gates_out = gates_out.old;
-      scratch = scratch.old;
-    }) }
+    lists: &CircuitLists,
+    room: CircuitRoom,
+) -> Result<Summary, Refusal>
+    ensures { left_in result room.exit ≡ ended end (lent_in circuit lists.now room.entry) }
 {
     let top = circuit.top;
     let n = wide(top.index()) + 1;
-    let g = gates.len() / 3;
+    let g = lists.gates.len() / 3;
     let words = 3 * n + 3 * g;
+    let CircuitRoom {
+        map,
+        next_images,
+        reset_images,
+        root_images,
+        gates_out,
+        scratch,
+    } = room;
     match end {
-        Walked::Reached(made) => {
-            finish(
-                words,
-                inputs.len(),
-                nexts,
-                resets,
-                roots,
-                map,
-                next_images,
-                reset_images,
-                root_images,
-                scratch,
-            );
-            renumbered(inputs.len() + states.len(), made)
+        Ok(made) => {
+            images::images(map, lists.nexts, next_images);
+            images::carry(lists.resets, lists.inputs.len(), reset_images);
+            images::images(map, lists.roots, root_images);
+            fill_front(scratch, words, 0);
+            renumbered(lists.inputs.len() + lists.states.len(), made)
         }
-        Walked::Stopped(why) => {
-            let fronts = Fronts {
-                map: n,
-                next_images: states.len(),
-                reset_images: states.len(),
-                root_images: roots.len(),
-                gates_out: 2 * g,
-                scratch: words,
-            };
-            clear(
-                fronts,
-                map,
-                next_images,
-                reset_images,
-                root_images,
-                gates_out,
-                scratch,
-            );
-            Answer::Refused(why)
+        Err(why) => {
+            fill_front(map, n, NO_IMAGE);
+            fill_front(next_images, lists.states.len(), 0);
+            fill_front(reset_images, lists.states.len(), 0);
+            fill_front(root_images, lists.roots.len(), 0);
+            fill_front(gates_out, 2 * g, 0);
+            fill_front(scratch, words, 0);
+            Err(why)
         }
     }
 }

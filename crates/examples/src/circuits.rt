@@ -2,7 +2,7 @@
 // be and hold 77, so that a word written past those named would show. Where the line asks for literals, their images in the map follow.
 use crate::say::Output;
 use crate::{lists, say};
-use circuit::{Answer, CircuitRecord, Image};
+use circuit::{CircuitLists, CircuitRecord, CircuitRoom, Refusal, Summary};
 use lit::{Lit, Var};
 
 // This function and the three after it read the line's lists.
@@ -90,21 +90,23 @@ fn shown(
     let mut root_images = [77u32; 8];
     let mut gates_out = [77u32; 12];
     let mut scratch = [77u32; 64];
-    let answer = aig::renumber(
-        record,
+    let lists = CircuitLists {
         inputs,
         states,
         nexts,
         resets,
         gates,
         roots,
-        &mut map,
-        &mut next_images,
-        &mut reset_images,
-        &mut root_images,
-        &mut gates_out,
-        &mut scratch,
-    );
+    };
+    let room = CircuitRoom {
+        map: &mut map,
+        next_images: &mut next_images,
+        reset_images: &mut reset_images,
+        root_images: &mut root_images,
+        gates_out: &mut gates_out,
+        scratch: &mut scratch,
+    };
+    let answer = aig::renumber(record, &lists, room);
     printed(
         to,
         answer,
@@ -120,7 +122,7 @@ fn shown(
 
 fn printed(
     to: &mut Output,
-    answer: Answer,
+    answer: Result<Summary, Refusal>,
     map: &[u32],
     gates: &[u32],
     nexts: &[u32],
@@ -165,20 +167,20 @@ fn images(to: &mut Output, map: &[u32], top: Var, codes: &[u32]) {
 }
 
 // A space and the image's code; `-` where there is none.
-fn image(to: &mut Output, found: Image) {
+fn image(to: &mut Output, found: Option<Lit>) {
     match found {
-        Image::Code(code) => say::counted(to, b" ", code.code() as u64),
-        Image::Absent => say::text(to, b" -"),
+        Some(code) => say::counted(to, b" ", code.code() as u64),
+        None => say::text(to, b" -"),
     }
 }
 
-pub fn outcome(to: &mut Output, answer: Answer) {
+pub fn outcome(to: &mut Output, answer: Result<Summary, Refusal>) {
     match answer {
-        Answer::Renumbered(summary) => {
+        Ok(summary) => {
             say::counted(to, b"made ", summary.made as u64);
             say::counted(to, b", largest ", summary.top.index() as u64);
         }
-        Answer::Refused(why) => {
+        Err(why) => {
             say::counted(to, b"refused ", refusals::number(why) as u64);
             say::counted(to, b" ", refusals::literal(why).code() as u64);
         }

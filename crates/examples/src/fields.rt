@@ -1,8 +1,6 @@
 // The parts of an example's line: words with a space between each two, numbers in decimal, and bytes in hexadecimal.
 ghost use Rattle.std.specs.Prelude.{◌≤◌, length, ◌≡◌, take};
 
-use token::Token;
-
 // The first place of the byte between two places; the second of these where it does not stand there.
 pub fn find(s: &[u8], from: usize, to: usize, b: u8) -> usize
     requires { (from ≤ to) × (to ≤ length s.now) }
@@ -45,8 +43,8 @@ pub fn word_end(s: &[u8], at: usize) -> usize
 // The number at a place; 0 where none stands there.
 pub fn number(s: &[u8], at: usize) -> u64 {
     match token::uint(s, at) {
-        Token::Value { value, used: _ } => value,
-        Token::Refused { why: _, place: _ } => 0,
+        Ok(number) => number.value,
+        Err(_) => 0,
     }
 }
 

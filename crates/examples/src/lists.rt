@@ -3,7 +3,6 @@
 ghost use Rattle.std.specs.Prelude.{◌≤◌, length, ◌≡◌, take};
 
 use crate::fields::find;
-use token::Token;
 
 // Whether the line has the letter.
 pub fn named(s: &[u8], letter: u8) -> bool {
@@ -61,10 +60,10 @@ fn number(s: &[u8], at: usize, last: u8, words: &mut [u32], n: usize) -> usize
     if digit(last) {
         return n;
     }
-    let Token::Value { value, used: _ } = token::uint(s, at) else {
+    let Ok(number) = token::uint(s, at) else {
         return n;
     };
-    words[n] = (value % 4294967296) as u32;
+    words[n] = (number.value % 4294967296) as u32;
     n + 1
 }
 

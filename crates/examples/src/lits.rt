@@ -1,7 +1,7 @@
 // Literals: document 01's index 3 and code 6, the constant's codes, the largest index whose code fits, and flips by either sign.
 use crate::say;
 use crate::say::Output;
-use lit::{Doubled, Lit, Var};
+use lit::{Lit, Var};
 
 pub fn run(to: &mut Output) {
     doubled(to, 3);
@@ -24,10 +24,10 @@ pub fn run(to: &mut Output) {
 fn doubled(to: &mut Output, index: u32) {
     say::counted(to, b"index ", index as u64);
     match Var::from_index(index).lit() {
-        Doubled::Code(l) => {
+        Some(l) => {
             say::counted(to, b" has the code ", l.code() as u64);
         }
-        Doubled::TooBig => say::text(to, b" is too big for a code"),
+        None => say::text(to, b" is too big for a code"),
     }
     say::line_end(to);
 }

@@ -2,7 +2,7 @@
 use crate::say::Output;
 use crate::{say, show};
 use plain::reading;
-use token::{PairToken, Token};
+use token::{Inputs, Number, Refused};
 
 pub fn run(to: &mut Output) {
     decimals(to, b"71 8 7 0");
@@ -13,11 +13,11 @@ pub fn run(to: &mut Output) {
 }
 
 // An answer that took as many bytes.
-fn took(bytes: usize) -> Token {
-    Token::Value {
+fn took(bytes: usize) -> Result<Number, Refused> {
+    Ok(Number {
         value: 0,
         used: bytes,
-    }
+    })
 }
 
 fn decimals(to: &mut Output, s: &[u8]) {
@@ -60,7 +60,7 @@ fn groups(to: &mut Output, s: &[u8]) {
     after(to, s, inputs);
 }
 
-fn after(to: &mut Output, s: &[u8], inputs: PairToken) {
+fn after(to: &mut Output, s: &[u8], inputs: Result<Inputs, Refused>) {
     let over = reading::pair_after(s, took(3), inputs, 6);
     pair(to, b"pair for 6", over);
     let code = reading::delta_after(s, took(5), over, 1);
@@ -81,12 +81,12 @@ fn zero(to: &mut Output, s: &[u8]) {
     token(to, b"delta_code from 6, where the pair began", code);
 }
 
-fn token(to: &mut Output, name: &[u8], t: Token) {
+fn token(to: &mut Output, name: &[u8], t: Result<Number, Refused>) {
     say::text(to, name);
     show::token(to, t);
 }
 
-fn pair(to: &mut Output, name: &[u8], t: PairToken) {
+fn pair(to: &mut Output, name: &[u8], t: Result<Inputs, Refused>) {
     say::text(to, name);
     show::pair(to, t);
 }

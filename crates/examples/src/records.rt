@@ -3,7 +3,7 @@
 use crate::say::Output;
 use crate::{circuits, say};
 use aig_records::GateRecord;
-use circuit::CircuitRecord;
+use circuit::{CircuitLists, CircuitRecord, CircuitRoom};
 use lit::{Lit, Var};
 
 pub fn run(to: &mut Output) {
@@ -73,22 +73,23 @@ fn renumbered(to: &mut Output, name: &[u8], inputs: &[u32], second: GateRecord, 
     let mut root_images = [77u32; 3];
     let mut gates_out = [77u32; 5];
     let mut scratch = [77u32; 22];
-    let answer = plain::records::renumber_two(
-        circuit(),
+    let lists = CircuitLists {
         inputs,
-        &latches,
-        &latches,
-        &latches,
-        gates,
-        &roots,
-        &mut map,
-        &mut next_images,
-        &mut reset_images,
-        &mut root_images,
-        &mut gates_out,
-        &mut scratch,
-        flat,
-    );
+        states: &latches,
+        nexts: &latches,
+        resets: &latches,
+        gates: &[],
+        roots: &roots,
+    };
+    let room = CircuitRoom {
+        map: &mut map,
+        next_images: &mut next_images,
+        reset_images: &mut reset_images,
+        root_images: &mut root_images,
+        gates_out: &mut gates_out,
+        scratch: &mut scratch,
+    };
+    let answer = plain::records::renumber_two(circuit(), &lists, gates, room, flat);
     say::text(to, name);
     circuits::outcome(to, answer);
     say::line_end(to);

@@ -1,33 +1,29 @@
 // Tokens' answers on standard output.
 use crate::say;
 use crate::say::Output;
-use token::{PairToken, Reason, Token};
+use token::{Inputs, Number, Refused};
 
 // `: VALUE in USED`, or what refused it, and the line's end.
-pub fn token(to: &mut Output, t: Token) {
+pub fn token(to: &mut Output, t: Result<Number, Refused>) {
     match t {
-        Token::Value { value, used } => {
-            say::counted(to, b": ", value);
-            ends_in(to, used);
+        Ok(number) => {
+            say::counted(to, b": ", number.value);
+            ends_in(to, number.used);
         }
-        Token::Refused { why, place } => refused(to, why, place),
+        Err(why) => refused(to, why),
     }
 }
 
 // `: (FIRST, SECOND) in USED`, or what refused it, and the line's end.
-pub fn pair(to: &mut Output, t: PairToken) {
+pub fn pair(to: &mut Output, t: Result<Inputs, Refused>) {
     match t {
-        PairToken::Inputs {
-            first,
-            second,
-            used,
-        } => {
-            say::counted(to, b": (", first);
-            say::counted(to, b", ", second);
+        Ok(inputs) => {
+            say::counted(to, b": (", inputs.first);
+            say::counted(to, b", ", inputs.second);
             say::text(to, b")");
-            ends_in(to, used);
+            ends_in(to, inputs.used);
         }
-        PairToken::PairRefused { why, place } => refused(to, why, place),
+        Err(why) => refused(to, why),
     }
 }
 
@@ -36,8 +32,8 @@ fn ends_in(to: &mut Output, used: usize) {
     say::line_end(to);
 }
 
-fn refused(to: &mut Output, why: Reason, place: usize) {
-    say::counted(to, b": refused ", token::number(why) as u64);
-    say::counted(to, b" at ", place as u64);
+fn refused(to: &mut Output, refused: Refused) {
+    say::counted(to, b": refused ", u32::from(refused.why) as u64);
+    say::counted(to, b" at ", refused.place as u64);
     say::line_end(to);
 }

@@ -8,13 +8,10 @@ use native.Mathlib.Omega.{arith}
 use lib.Dec.{ltb, leb, eqb}
 use lib.ListN.{length, take, drop}
 use Rattle.token.specs.Format.{groups_value}
-use Rattle.token.specs.Answer.{go_on_at, binary_of, binary_at, less, delta_at, pair_first, pair_second, pair_at}
+use Rattle.std.specs.Prelude.{Ok, Err}
+use Rattle.token.specs.Answer.{Token, PairToken, value, refused, inputs, go_on_at, binary_of, binary_at, less, delta_at, pair_first, pair_second, pair_at}
 use Rattle.token.specs.declared.Reason.{Reason}
 use Rattle.token.specs.declared.Reason.TheVariants.{Cut, TooLong, OverReference, ZeroDelta}
-use Rattle.token.specs.declared.Token.{Token}
-use Rattle.token.specs.declared.Token.TheVariants.{Value, Refused}
-use Rattle.token.specs.declared.PairToken.{PairToken}
-use Rattle.token.specs.declared.PairToken.TheVariants.{Inputs, PairRefused}
 use Rattle.token.specs.Claims.{RefusedDelta, first, second, first_zero}
 use Rattle.token.proofs.Theorems.{delta_uses, pair_uses, pair_names_the_delta}
 use Rattle.circuit.specs.Walk.{first_code}
@@ -41,24 +38,24 @@ module _ (s : List ℕ) (room : Room) (P : Fault → Type 0) (has : HasFile P) w
   -- tokens
 
   abbrev OnlyPair : PairToken → Type 0
-  OnlyPair (Inputs a b n) = Unit {0}
-  OnlyPair (PairRefused why place) = P (Number why)
+  OnlyPair (Ok t) = Unit {0}
+  OnlyPair (Err e) = P (Number e.why)
 
   groups : (bs : List ℕ) (n at : ℕ) → OnlyToken P (binary_of bs n at)
   groups bs n at = go (leb 8 n) (leb (length bs) n)
     where
-      go : (a b : Bool) → OnlyToken P (cond a (Refused TooLong at) (cond b (Refused Cut at) (Value (groups_value (take (n + 1) bs)) (n + 1))))
+      go : (a b : Bool) → OnlyToken P (cond a (refused TooLong at) (cond b (refused Cut at) (value (groups_value (take (n + 1) bs)) (n + 1))))
       go true b = has.too_long
       go false true = has.cut
       go false false = tt
 
   taken_from_lem : (reference at : ℕ) (t : Token) → OnlyToken P t → OnlyToken P (less reference at t)
-  taken_from_lem reference at (Value d n) h = go (leb d reference)
+  taken_from_lem reference at (Ok d) h = go (leb d.value reference)
     where
-      go : (b : Bool) → OnlyToken P (cond b (Value (reference - d) n) (Refused OverReference at))
+      go : (b : Bool) → OnlyToken P (cond b (value (reference - d.value) d.used) (refused OverReference at))
       go true = tt
       go false = has.over_reference
-  taken_from_lem reference at (Refused why place) h = h
+  taken_from_lem reference at (Err e) h = h
 
   delta : (at reference : ℕ) → OnlyToken P (delta_at s at reference)
   unfolding delta_at binary_at
@@ -69,16 +66,16 @@ module _ (s : List ℕ) (room : Room) (P : Fault → Type 0) (has : HasFile P) w
   pair at code = first (delta_at s at code) (delta at code)
     where
       second : (a n : ℕ) (t : Token) → OnlyToken P t → OnlyPair (pair_second code at a n t)
-      second a n (Value b m) h = last (eqb a code)
+      second a n (Ok t) h = last (eqb a code)
         where
-          last : (z : Bool) → OnlyPair (cond z (PairRefused ZeroDelta at) (Inputs a b (n + m)))
+          last : (z : Bool) → OnlyPair (cond z (refused ZeroDelta at) (inputs a t.value (n + t.used)))
           last true = has.zero_delta
           last false = tt
-      second a n (Refused why place) h = h
+      second a n (Err e) h = h
 
       first : (t : Token) → OnlyToken P t → OnlyPair (pair_first s code at t)
-      first (Value a n) h = second a n (delta_at s (at + n) a) (delta (at + n) a)
-      first (Refused why place) h = h
+      first (Ok t) h = second t.value t.used (delta_at s (at + t.used) t.value) (delta (at + t.used) t.value)
+      first (Err e) h = h
 
   -- latches, gates, and the whole
 
@@ -96,8 +93,8 @@ module _ (s : List ℕ) (room : Room) (P : Fault → Type 0) (has : HasFile P) w
       placed why place (second a m e f p) = omega (arith, delta_uses s at (first_code n + 2 * k) a m e, p)
 
       go : (t : PairToken) → pair_at s at (first_code n + 2 * k) ≡ t → OnlyPair t → Only s P (gate_of at t)
-      go (Inputs a b used) e h = (pair_uses s at (first_code n + 2 * k) a b used e).inside
-      go (PairRefused why place) e h = (h, placed why place (pair_names_the_delta s at (first_code n + 2 * k) why place e))
+      go (Ok t) e h = (pair_uses s at (first_code n + 2 * k) t.first t.second t.used e).inside
+      go (Err r) e h = (h, placed r.why r.place (pair_names_the_delta s at (first_code n + 2 * k) r.why r.place e))
 
   gates : (n m at : ℕ) → at ≤ length s → Only s P (gates_at s n m at)
   unfolding gates_at

@@ -1,5 +1,4 @@
 pub mod Words
-pub mod Writing
 pub mod Pins
 pub mod WritePins
 pub mod TextPins

@@ -12,7 +12,10 @@ use Rattle.lines.specs.Lines.{is_byte, byte_at, tag_at, number_at, line_at, line
 use Rattle.lines.specs.Sections.{count_at, others_at, counts_at, header_at, root_room_at, properties_at, sizes_at, roots_at}
 use Rattle.binary.specs.File.{gate_at, gates_at, sized_at, lists_at, body_at, read_file}
 use Rattle.binary.specs.Promise.{Lists}
-use Rattle.binary.specs.declared.FileAnswer.TheVariants.{Taken}
+use Rattle.std.specs.Prelude.{Result, Ok}
+use Rattle.lines.specs.declared.Broken.{Broken}
+use Rattle.lines.specs.declared.Fault.TheVariants.{Above}
+use Rattle.lines.specs.Promise.{broken}
 use Rattle.binary.specs.declared.FileRead.{FileRead}
 use Rattle.file_words.specs.Read.{Seen, top_of, answer_words, read_seen}
 
@@ -58,12 +61,14 @@ abbrev untouched : ℕ → List ℕ → Seen
 untouched number left = sees number dirty.nexts dirty.resets dirty.gates dirty.sizes dirty.roots left
 
 -- the numbers of a file that is taken, all of them different
-abbrev pub numbers : FileRead
-numbers = record { answer = Taken 99; inputs = 2; latches = 30; gates = 400; counts = 5 ∷ 6 ∷ 7 ∷ 8 ∷ 9 ∷ []; sets = 10 }
+abbrev pub numbers : Result FileRead Broken
+numbers = Ok (record { used = 99; inputs = 2; latches = 30; gates = 400; counts = 5 ∷ 6 ∷ 7 ∷ 8 ∷ 9 ∷ []; sets = 10 })
 
--- which word is which; M of a binary file is the sum of three
-pub words_pinned : (answer_words 700 numbers ≡ 99 ∷ 700 ∷ 2 ∷ 30 ∷ 400 ∷ 5 ∷ 6 ∷ 7 ∷ 8 ∷ 9 ∷ 10 ∷ []) × (top_of numbers ≡ 432)
-words_pinned = (refl, refl)
+-- which word is which; M of a binary file is the sum of three; a refusal has but its place
+pub words_pinned :
+    (answer_words 700 numbers ≡ 99 ∷ 700 ∷ 2 ∷ 30 ∷ 400 ∷ 5 ∷ 6 ∷ 7 ∷ 8 ∷ 9 ∷ 10 ∷ []) × (top_of numbers ≡ 432)
+    × (answer_words 0 (broken Above 7) ≡ 7 ∷ replicate 10 0) × (top_of (broken Above 7) ≡ 0)
+words_pinned = (refl, refl, refl, refl)
 
 -- a file that is taken: all is there, its reset too, fairness before justice, and 46 bytes are used
 pub taken_pinned :

@@ -9,16 +9,17 @@ use lib.Dec.{ltb, leb, eqb}
 use lib.ListN.{length, get_or, take, drop}
 use borrow.Author.Tests.{ltb-true}
 use Rattle.token.specs.Format.{decimal_value}
-use Rattle.token.specs.Answer.{digits_at, uint_at, uint_of, within, header_field_at}
+use Rattle.std.specs.Prelude.{Ok, Err}
+use Rattle.token.specs.Answer.{Token, value, refused, digits_at, uint_at, uint_of, within, header_field_at}
 use Rattle.token.specs.declared.Reason.TheVariants.{NoDigit, LeadingZero, OverWidth, OverLimit}
-use Rattle.token.specs.declared.Token.{Token}
-use Rattle.token.specs.declared.Token.TheVariants.{Value, Refused}
+use Rattle.token.specs.declared.Number.{Number}
 use Rattle.token.specs.Claims.{NamesPlace}
 use Rattle.token.proofs.Refusals.{header_field_place}
 use Rattle.circuit.specs.Circuit.{is_reset}
 use Rattle.circuit.specs.Outcome.{limit, total}
 use Rattle.lines.specs.declared.Fault.{Fault}
-use Rattle.lines.specs.declared.Fault.TheVariants.{Number, Missing, TooMany, Short, Reset}
+use Rattle.lines.specs.declared.Fault.TheVariants as F
+use Rattle.lines.specs.declared.Fault.TheVariants.{Missing, TooMany, Short, Reset}
 use Rattle.lines.specs.declared.Header.{Header}
 use Rattle.lines.specs.Reading.{Read, got, no, ◌▸◌, row_at}
 use Rattle.lines.specs.Lines.{is_byte, byte_at, space_at, newline_at, begins, tag_at, number_of, number_at, line_at, lines_at, latch_line, reset_line_at, reset_at, latch_at}
@@ -33,15 +34,15 @@ Only s P (no why place) = P why × (place ≤ length s)
 
 -- the same of a token's refusal
 abbrev pub OnlyToken : (Fault → Type 0) → Token → Type 0
-OnlyToken P (Value v n) = Unit {0}
-OnlyToken P (Refused why place) = P (Number why)
+OnlyToken P (Ok t) = Unit {0}
+OnlyToken P (Err e) = P (F.Number e.why)
 
 -- P has every reason that a file of either form may be refused for
 pub record Has (P : Fault → Type 0) : Type 0 where
-  pub no_digit : P (Number NoDigit)
-  pub leading_zero : P (Number LeadingZero)
-  pub over_width : P (Number OverWidth)
-  pub over-limit : P (Number OverLimit)
+  pub no_digit : P (F.Number NoDigit)
+  pub leading_zero : P (F.Number LeadingZero)
+  pub over_width : P (F.Number OverWidth)
+  pub over-limit : P (F.Number OverLimit)
   pub missing : P Missing
   pub too_many : P TooMany
   pub short : P Short
@@ -79,16 +80,16 @@ module _ (s : List ℕ) (P : Fault → Type 0) where
 
   -- tokens
 
-  pub number_of_lem : (at : ℕ) (t : Token) → at ≤ length s → OnlyToken P t → NamesPlace at t → ((v n : ℕ) → t ≡ Value v n → at + n ≤ length s)
+  pub number_of_lem : (at : ℕ) (t : Token) → at ≤ length s → OnlyToken P t → NamesPlace at t → ((n : Number) → t ≡ Ok n → at + n.used ≤ length s)
       → Ends (number_of at t)
-  number_of_lem at (Value v n) i h p inside = inside v n refl
-  number_of_lem at (Refused why place) i h p inside = (h, omega (arith, i, p))
+  number_of_lem at (Ok n) i h p inside = inside n refl
+  number_of_lem at (Err e) i h p inside = (h, omega (arith, i, p))
 
   module _ (has : Has P) where
     digits : (n d v at : ℕ) → OnlyToken P (uint_of n d v at)
     digits n d v at = go (eqb n 0) (leb 2 n && eqb d 48) (ltb v 18446744073709551616)
       where
-        go : (a b c : Bool) → OnlyToken P (cond a (Refused NoDigit at) (cond b (Refused LeadingZero at) (cond c (Value v n) (Refused OverWidth at))))
+        go : (a b c : Bool) → OnlyToken P (cond a (refused NoDigit at) (cond b (refused LeadingZero at) (cond c (value v n) (refused OverWidth at))))
         go true b c = has.no_digit
         go false true c = has.leading_zero
         go false false true = tt
@@ -99,12 +100,12 @@ module _ (s : List ℕ) (P : Fault → Type 0) where
     uint at = let n = digits_at s at in digits n (get_or s at 0) (decimal_value (take n (drop at s))) at
 
     pub held : (most at : ℕ) (t : Token) → OnlyToken P t → OnlyToken P (within most at t)
-    held most at (Value v n) h = go (leb v most)
+    held most at (Ok t) h = go (leb t.value most)
       where
-        go : (b : Bool) → OnlyToken P (cond b (Value v n) (Refused OverLimit at))
+        go : (b : Bool) → OnlyToken P (cond b (Ok t) (refused OverLimit at))
         go true = tt
         go false = has.over-limit
-    held most at (Refused why place) h = h
+    held most at (Err e) h = h
 
     -- numbers, bytes and lines
 
@@ -115,7 +116,7 @@ module _ (s : List ℕ) (P : Fault → Type 0) where
     number : (most at : ℕ) → at ≤ length s → Ends (number_at s most at)
     unfolding number_at
     number most at i =
-        number_of_lem at (header_field_at s at most) i (number_only most at) (header_field_place s at most) (λ v n e. (number_held s most at v n e).inside)
+        number_of_lem at (header_field_at s at most) i (number_only most at) (header_field_place s at most) (λ n e. (number_held s most at n e).inside)
 
     pub byte : (b at : ℕ) → at ≤ length s → Ends (byte_at s b at)
     unfolding byte_at is_byte

@@ -8,7 +8,7 @@ use lib.ListN.{replicate}
 use Rattle.token.specs.Answer.{digits_at, uint_at, header_field_at, lit_at}
 use Rattle.lines.specs.Lines.{is_byte, byte_at, tag_at, number_at, line_at, lines_at, reset_line_at, reset_at, latch_at}
 use Rattle.lines.specs.Sections.{count_at, others_at, counts_at, header_at, root_room_at, properties_at, sizes_at, roots_at}
-use Rattle.binary.specs.declared.FileAnswer.TheVariants.{Taken}
+use Rattle.std.specs.Prelude.{Ok}
 use Rattle.ascii_lines.specs.Lines.{defined_at, input_at, inputs_at, stated_at, latches_at, input_pair_at, gate_at, gates_at}
 use Rattle.ascii.specs.Text.{sized_at, lists_at, body_at, read_text}
 use Rattle.ascii.specs.Promise.{Lists, lists_of}
@@ -70,7 +70,7 @@ untouched number left =
 
 -- the numbers of a text that is taken but for M are those of a binary file
 pub text_numbers_pinned :
-    file_read (record { answer = Taken 99; top = 700; inputs = 2; latches = 30; gates = 400; counts = 5 ∷ 6 ∷ 7 ∷ 8 ∷ 9 ∷ []; sets = 10 }) ≡ numbers
+    file_read (Ok (record { used = 99; top = 700; inputs = 2; latches = 30; gates = 400; counts = 5 ∷ 6 ∷ 7 ∷ 8 ∷ 9 ∷ []; sets = 10 })) ≡ numbers
 text_numbers_pinned = refl
 
 -- texts that are taken: M is the header's, gates are as they are written, fairness stands before justice

@@ -4,10 +4,9 @@ use mathlib.Core.Bool.{Bool, true, false, cond, ◌||◌}
 use mathlib.Core.List.{List}
 use lib.Dec.{ltb, eqb}
 use lib.ListN.{length}
-use Rattle.token.specs.Answer.{uint_at, assigned, lit_at}
+use Rattle.std.specs.Prelude.{Ok, Err}
+use Rattle.token.specs.Answer.{Token, refused, uint_at, assigned, lit_at}
 use Rattle.token.specs.declared.Reason.TheVariants.{AssignsZero, AssignsOdd}
-use Rattle.token.specs.declared.Token.{Token}
-use Rattle.token.specs.declared.Token.TheVariants.{Value, Refused}
 use Rattle.token.proofs.Refusals.{lit_place}
 use Rattle.lines.specs.declared.Fault.{Fault}
 use Rattle.lines.specs.declared.Fault.TheVariants.{Number, Short}
@@ -32,13 +31,13 @@ module _ (s : List ℕ) (room : Room) (P : Fault → Type 0) (has : HasText P) w
   -- literals that a line defines
 
   assigns : (at : ℕ) (t : Token) → OnlyToken P t → OnlyToken P (assigned at t)
-  assigns at (Value v n) h = go (eqb v 0) (eqb (v % 2) 1)
+  assigns at (Ok t) h = go (eqb t.value 0) (eqb (t.value % 2) 1)
     where
-      go : (a b : Bool) → OnlyToken P (cond a (Refused AssignsZero at) (cond b (Refused AssignsOdd at) (Value v n)))
+      go : (a b : Bool) → OnlyToken P (cond a (refused AssignsZero at) (cond b (refused AssignsOdd at) (Ok t)))
       go true b = has.assigns_zero
       go false true = has.assigns_odd
       go false false = tt
-  assigns at (Refused why place) h = h
+  assigns at (Err e) h = h
 
   literal : (most at : ℕ) → OnlyToken P (lit_at s at most true)
   unfolding lit_at
@@ -48,7 +47,7 @@ module _ (s : List ℕ) (room : Room) (P : Fault → Type 0) (has : HasText P) w
   unfolding defined_at
   defined most at i =
       number_of_lem s P at (lit_at s at most true) i (literal most at) (lit_place s at most true)
-      (λ v n e. (number_held s most at v n (lit_counted s most at v n e)).inside)
+      (λ n e. (number_held s most at n (lit_counted s most at n e)).inside)
 
   -- lines
 

@@ -24,7 +24,7 @@ use Rattle.ascii.proofs.Theorems.{never_short}
 use Rattle.ascii.proofs.WriteMost as most
 use Rattle.file_words.specs.Write.{Seen}
 use Rattle.file_words.specs.Read.{file_number}
-use Rattle.file_words.specs.Text.{TextSeen, read_text_seen, write_text_seen}
+use Rattle.file_words.specs.Text.{TextSeen, file_read, read_text_seen, write_text_seen}
 use Rattle.file_words.proofs.Refusals.{only_refused, only_taken}
 use Rattle.file_words.proofs.TextRefusals.{HasText, only_text}
 use Rattle.file_words.proofs.Theorems.{among, three_is_short, not_short}
@@ -95,7 +95,7 @@ pub never_three_text : (bytes : List ℕ) (l : Lists) (words : List ℕ) → 11 
 unfolding read_text_seen
 never_three_text bytes l words room ample = rw (le-ltb (length words) 11 room) (go (read_text bytes (room_of l)) refl)
   where
-    go : (R : Read Text) → read_text bytes (room_of l) ≡ R → file_number (left R l).read.answer ≢ 3
+    go : (R : Read Text) → read_text bytes (room_of l) ≡ R → file_number (file_read (left R l).read) ≢ 3
     go (got t at) e = omega arith
     go (no why place) e = λ three. never_short bytes (room_of l) ample place (e ∙ ap (λ (w : Fault). no w place) (three_is_short why three))
 

@@ -10,7 +10,7 @@ use native.Mathlib.Omega.{arith}
 use lib.Dec.{eqb}
 use lib.ListN.{length}
 use borrow.Author.Tests.{le-ltb}
-use Rattle.promise.specs.Determined.{DeterminesCells}
+use Rattle.promise.specs.Determined.{Determines, DeterminesCells}
 use Rattle.lines.specs.Numbers.{fault_number}
 use Rattle.token.specs.declared.Reason.TheVariants.{NoDigit, LeadingZero, OverWidth, OverLimit, AssignsZero, AssignsOdd}
 use Rattle.token.specs.declared.Reason.TheVariants.{Cut, TooLong, OverReference, ZeroDelta}
@@ -20,12 +20,11 @@ use Rattle.lines.specs.Reading.{Read, got, no}
 use Rattle.binary.specs.File.{File, Room, read_file}
 use Rattle.binary.specs.Known.{Ample}
 use Rattle.binary.specs.Promise.{Lists, room_of, left}
-use Rattle.binary.specs.declared.FileWritten.TheVariants.{Unwritten}
-use Rattle.binary.specs.Write.{file_of, file_in, wrote, written_as, writing}
+use Rattle.std.specs.Prelude.{Result, Ok, Err}
+use Rattle.binary.specs.Write.{unwritten, file_of, file_in, wrote, written_as, writing}
 use Rattle.binary.proofs.Theorems.{never_short}
+use Rattle.ordered.specs.declared.given.Fault as given
 use Rattle.ordered.specs.declared.given.Fault.TheVariants as lent
-use Rattle.ordered.specs.declared.given.Checked.{Checked}
-use Rattle.ordered.specs.declared.given.Checked.TheVariants.{Fits, Faulty}
 use Rattle.ordered.specs.WellOrdered.{variables_of}
 use Rattle.ordered.specs.Check.{Words, circuit_in, checked}
 use Rattle.ordered.specs.Given as ordered
@@ -36,6 +35,10 @@ use Rattle.file_words.specs.Write.{written_number, as_seen, seen_by, write_seen}
 use Rattle.binary.proofs.Most as most
 use Rattle.file_words.proofs.Refusals.{only_refused, only_taken}
 use Rattle.file_words.proofs.FileRefusals.{HasFile, only-read}
+use Rattle.file_words.proofs.answered.top_of.Kinds as top-kinds
+use Rattle.file_words.proofs.answered.top_of.Reads as top-promise
+use Rattle.file_words.proofs.answered.words_of.Kinds as words-kinds
+use Rattle.file_words.proofs.answered.words_of.Reads as words-promise
 use Rattle.file_words.proofs.read.Kinds as read-kinds
 use Rattle.file_words.proofs.read.Reads as read-promise
 use Rattle.file_words.proofs.write.Kinds as write-kinds
@@ -54,6 +57,13 @@ pub one_read :
     ))
 one_read κs a x y e f p q =
     (ap (λ (s : Seen). s.number) (p ∙ sym q), ap (λ (s : Seen). (s.nexts, s.resets, s.gates, s.sizes, s.roots, s.words)) (p ∙ sym q))
+
+-- M of a file, and the eleven words
+pub one_top_of : Determines 0 top-kinds.ps top-kinds.r top-promise.Learnt
+one_top_of κs a x y e f p q = p ∙ sym q
+
+pub one_words_of : Determines 0 words-kinds.ps words-kinds.r words-promise.Learnt
+one_words_of κs a x y e f p q = p ∙ sym q
 
 -- of `write` the number, each lent byte, and the answer words
 pub one_write :
@@ -123,7 +133,7 @@ pub never_three : (bytes : List ℕ) (l : Lists) (words : List ℕ) → 11 ≤ l
 unfolding read_seen
 never_three bytes l words room ample = rw (le-ltb (length words) 11 room) (go (read_file bytes (room_of l)) refl)
   where
-    go : (R : Read File) → read_file bytes (room_of l) ≡ R → file_number (left R l).read.answer ≢ 3
+    go : (R : Read File) → read_file bytes (room_of l) ≡ R → file_number (left R l).read ≢ 3
     go (got f at) e = omega arith
     go (no why place) e = λ three. never_short bytes (room_of l) ample place (e ∙ ap (λ (w : Fault). no w place) (three_is_short why three))
 
@@ -138,16 +148,16 @@ pub not_short : (form : File → List ℕ) (w : Words) (out words : List ℕ) �
 unfolding seen_by
 not_short form w out words room fits = rw (le-ltb (length words) 2 room) (five (eqb (length w.counts) 5))
   where
-    go : (c : Checked) → checked w 0 ≡ c → written_number (written_as c (form (file_in w)) out).answer ≢ 3
-    go Fits e = rw (le-ltb (length out) (length (form (file_in w))) (fits ((fits_exactly w 0).0 e).0)) (omega arith)
-    go (Faulty lent.TooBig) e = omega arith
-    go (Faulty lent.Misshapen) e = omega arith
-    go (Faulty (lent.Over l)) e = omega arith
-    go (Faulty (lent.Reset l)) e = omega arith
-    go (Faulty (lent.Disordered l)) e = omega arith
-    go (Faulty lent.Short) e = absurd ((exactly w 0 (Faulty lent.Short)).0 e)
+    go : (c : Result (Unit {0}) given.Fault) → checked w 0 ≡ c → written_number (written_as c (form (file_in w)) out).answer ≢ 3
+    go (Ok fits_all) e = rw (le-ltb (length out) (length (form (file_in w))) (fits ((fits_exactly w 0).0 e).0)) (omega arith)
+    go (Err lent.TooBig) e = omega arith
+    go (Err lent.Misshapen) e = omega arith
+    go (Err (lent.Over l)) e = omega arith
+    go (Err (lent.Reset l)) e = omega arith
+    go (Err (lent.Disordered l)) e = omega arith
+    go (Err lent.Short) e = absurd ((exactly w 0 (Err lent.Short)).0 e)
 
-    five : (b : Bool) → (as_seen (cond b (written_as (checked w 0) (form (file_in w)) out) (wrote (Unwritten lent.Misshapen 0) out)) words).number ≢ 3
+    five : (b : Bool) → (as_seen (cond b (written_as (checked w 0) (form (file_in w)) out) (wrote (unwritten lent.Misshapen 0) out)) words).number ≢ 3
     five true = go (checked w 0) refl
     five false = omega arith
 

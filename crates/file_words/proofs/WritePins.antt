@@ -10,8 +10,8 @@ use Rattle.circuit.specs.Walk.{first_code}
 use Rattle.sections.specs.Bytes.{line_bytes, count_bytes, reset_bytes, latch_bytes, after_tag, roots_bytes}
 use Rattle.ordered.specs.declared.given.Fault.TheVariants.{TooBig, Misshapen, Over, Reset, Disordered, Short}
 use Rattle.ordered.specs.Check.{Words, too_large, uneven, checked}
-use Rattle.binary.specs.declared.FileWritten.TheVariants.{Written, Unwritten}
-use Rattle.binary.specs.Write.{parts_of, writing}
+use Rattle.std.specs.Prelude.{Ok}
+use Rattle.binary.specs.Write.{unwritten, parts_of, writing}
 use Rattle.file_words.specs.Write.{Seen, first_number, first_words, written_number, written_words, seen_by, write_seen}
 
 -- inputs, counts, next states, resets, gates, sizes, roots
@@ -56,20 +56,20 @@ refused n number literal needed = sees number (replicate n 7) (literal ∷ neede
 
 -- each answer as a number and two words
 pub written_words_pinned :
-    (written_number (Written 99) ≡ 0)
-    × (written_words (Written 99) ≡ 0 ∷ 99 ∷ [])
-    × (written_number (Unwritten TooBig 0) ≡ 1)
-    × (written_words (Unwritten TooBig 0) ≡ 0 ∷ 0 ∷ [])
-    × (written_number (Unwritten Misshapen 0) ≡ 2)
-    × (written_words (Unwritten Misshapen 0) ≡ 0 ∷ 0 ∷ [])
-    × (written_number (Unwritten (Over (literal 30)) 0) ≡ 4)
-    × (written_words (Unwritten (Over (literal 30)) 0) ≡ 30 ∷ 0 ∷ [])
-    × (written_number (Unwritten (Reset (literal 30)) 0) ≡ 22)
-    × (written_words (Unwritten (Reset (literal 30)) 0) ≡ 30 ∷ 0 ∷ [])
-    × (written_number (Unwritten (Disordered (literal 30)) 0) ≡ 23)
-    × (written_words (Unwritten (Disordered (literal 30)) 0) ≡ 30 ∷ 0 ∷ [])
-    × (written_number (Unwritten Short 99) ≡ 3)
-    × (written_words (Unwritten Short 99) ≡ 0 ∷ 99 ∷ [])
+    (written_number (Ok 99) ≡ 0)
+    × (written_words (Ok 99) ≡ 0 ∷ 99 ∷ [])
+    × (written_number (unwritten TooBig 0) ≡ 1)
+    × (written_words (unwritten TooBig 0) ≡ 0 ∷ 0 ∷ [])
+    × (written_number (unwritten Misshapen 0) ≡ 2)
+    × (written_words (unwritten Misshapen 0) ≡ 0 ∷ 0 ∷ [])
+    × (written_number (unwritten (Over (literal 30)) 0) ≡ 4)
+    × (written_words (unwritten (Over (literal 30)) 0) ≡ 30 ∷ 0 ∷ [])
+    × (written_number (unwritten (Reset (literal 30)) 0) ≡ 22)
+    × (written_words (unwritten (Reset (literal 30)) 0) ≡ 30 ∷ 0 ∷ [])
+    × (written_number (unwritten (Disordered (literal 30)) 0) ≡ 23)
+    × (written_words (unwritten (Disordered (literal 30)) 0) ≡ 30 ∷ 0 ∷ [])
+    × (written_number (unwritten Short 99) ≡ 3)
+    × (written_words (unwritten Short 99) ≡ 0 ∷ 99 ∷ [])
 written_words_pinned = (refl, refl, refl, refl, refl, refl, refl, refl, refl, refl, refl, refl, refl, refl)
 
 -- what is refused first, as a number and the answer words after it

@@ -1,10 +1,11 @@
 -- What the C entries for reading and for writing a text file answer, and what they leave in each lent list. Assumes nothing.
-use Rattle.std.specs.Prelude.{ℕ, cond, List, ltb, length}
+use Rattle.std.specs.Prelude.{ℕ, cond, List, ltb, length, Result, Ok, Err}
 use Rattle.circuit.specs.Outcome.{onto}
 use Rattle.ordered.specs.Check.{Words}
 use Rattle.binary.specs.declared.FileRead.{FileRead}
 use Rattle.ascii.specs.declared.TextRead.{TextRead}
-use Rattle.ascii.specs.Promise.{Lists, Outcome, outcome}
+use Rattle.lines.specs.declared.Broken.{Broken}
+use Rattle.ascii.specs.Promise.{Lists, numbers, Outcome, outcome}
 use Rattle.ascii.specs.Write.{writing}
 use Rattle.file_words.specs.Read.{file_number, answer_words}
 use Rattle.file_words.specs.Write.{Seen, seen_by}
@@ -40,13 +41,17 @@ abbrev pub text_seen : TextSeen → TextSeen
 text_seen s = s
 
 -- what is answered of a text but for its M, as of a binary file
-abbrev pub file_read : TextRead → FileRead
-file_read r =
-    record { answer = r.answer; inputs = r.inputs; latches = r.latches; gates = r.gates; counts = r.counts; sets = r.sets }
+abbrev pub file_read : Result TextRead Broken → Result FileRead Broken
+file_read (Ok r) = Ok (record { used = r.used; inputs = r.inputs; latches = r.latches; gates = r.gates; counts = r.counts; sets = r.sets })
+file_read (Err e) = Err e
 
--- an outcome as C sees it: M is the header's; words past the eleventh stay
+-- M of a text: its header's
+abbrev pub text_top : Result TextRead Broken → ℕ
+text_top r = (numbers r).top
+
+-- an outcome as C sees it; words past the eleventh stay
 abbrev pub as_text_seen : Outcome → List ℕ → TextSeen
-as_text_seen o words = text_seen_of (file_number o.read.answer) o.lists (onto (answer_words o.read.top (file_read o.read)) words)
+as_text_seen o words = text_seen_of (file_number (file_read o.read)) o.lists (onto (answer_words (text_top o.read) (file_read o.read)) words)
 
 -- fewer than eleven answer words is refusal 3, tested first, and leaves every list; else it is the outcome of reading the bytes into the lists
 unfoldable pub read_text_seen : List ℕ → Lists → List ℕ → TextSeen

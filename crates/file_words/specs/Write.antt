@@ -1,12 +1,11 @@
 -- What a C entry for writing a file answers, and what it leaves in the lent bytes and words: of either form, and of the binary one. Assumes nothing.
-use Rattle.std.specs.Prelude.{ℕ, cond, List, [], ◌∷◌, eqb, ltb, length}
+use Rattle.std.specs.Prelude.{ℕ, cond, List, [], ◌∷◌, eqb, ltb, length, Result, Ok, Err}
 use Rattle.circuit.specs.Outcome.{onto}
 use Rattle.ordered.specs.declared.given.Fault.TheVariants.{Misshapen}
 use Rattle.ordered.specs.declared.given.Shape.{Shape}
 use Rattle.ordered.specs.Check.{Words, fault_number, fault_literal}
-use Rattle.binary.specs.declared.FileWritten.{FileWritten}
-use Rattle.binary.specs.declared.FileWritten.TheVariants.{Written, Unwritten}
-use Rattle.binary.specs.Write.{Writing, wrote, writing}
+use Rattle.binary.specs.declared.Unwritten.{Unwritten}
+use Rattle.binary.specs.Write.{unwritten, Writing, wrote, writing}
 
 -- all that C sees afterwards: the number answered, the bytes that writing writes, and the answer words
 pub record Seen : Type 0 where
@@ -26,14 +25,14 @@ abbrev pub shape_of : ℕ → List ℕ → Shape
 shape_of inputs counts = record { inputs = inputs; counts = counts }
 
 -- 0 for a file that is written, the fault's number for a refusal
-abbrev pub written_number : FileWritten → ℕ
-written_number (Written n) = 0
-written_number (Unwritten why needed) = fault_number why
+abbrev pub written_number : Result ℕ Unwritten → ℕ
+written_number (Ok n) = 0
+written_number (Err u) = fault_number u.why
 
 -- the two answer words: the literal at fault; the bytes written, or those needed where they are too few
-abbrev pub written_words : FileWritten → List ℕ
-written_words (Written n) = 0 ∷ n ∷ []
-written_words (Unwritten why needed) = fault_literal why ∷ needed ∷ []
+abbrev pub written_words : Result ℕ Unwritten → List ℕ
+written_words (Ok n) = 0 ∷ n ∷ []
+written_words (Err u) = fault_literal u.why ∷ u.needed ∷ []
 
 -- what writing does as C sees it; words past the second stay
 abbrev pub as_seen : Writing → List ℕ → Seen
@@ -51,7 +50,7 @@ first_words counts words = cond (ltb (length words) 2) words (cond (eqb (length 
 unfoldable pub seen_by : (Words → List ℕ → Writing) → Words → List ℕ → List ℕ → Seen
 seen_by form w out words =
     cond (ltb (length words) 2) (seen_of 3 out words)
-    (as_seen (cond (eqb (length w.counts) 5) (form w out) (wrote (Unwritten Misshapen 0) out)) words)
+    (as_seen (cond (eqb (length w.counts) 5) (form w out) (wrote (unwritten Misshapen 0) out)) words)
 
 -- of a binary file
 abbrev pub write_seen : Words → List ℕ → List ℕ → Seen

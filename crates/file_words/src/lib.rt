@@ -9,9 +9,12 @@ ghost use Rattle.file_words.specs.Read.{file_seen, read_seen};
 ghost use Rattle.file_words.specs.Write.{bytes_seen, write_seen};
 ghost use Rattle.file_words.specs.Text.{text_seen, read_text_seen, write_text_seen};
 
+pub use answered::{top_of, words_of};
+
 // Reads a binary file as `binary::read` does: 0, or a refusal's number. The first eleven words of `answer` are the bytes used, or the place of the
 // refusal; then, 0 for a refusal, M = I + L + A, I, L, A, the five root counts in walk order, and the number of justice sets. Fewer than eleven words is
 // refusal 3, tested first, and writes nothing at all.
+#[tactic(auto, unfolding(crate::specs::Read::read_seen))]
 pub fn read(
     bytes: &[u8],
     nexts: &mut [u32],
@@ -42,11 +45,11 @@ pub fn read(
     }
     let said = binary::read(bytes, nexts, resets, gates, sizes, roots);
     answered::put_words(said, answered::top_of(said), answer);
-    let what = said.answer;
-    answered::number(what)
+    answered::number(said)
 }
 
 // Reads a text file as `ascii::read` does, with the words of `read`, but that M is the header's, which may be above I + L + A.
+#[tactic(auto, unfolding(crate::specs::Text::read_text_seen))]
 pub fn read_text(
     bytes: &[u8],
     inputs: &mut [u32],
@@ -82,14 +85,15 @@ pub fn read_text(
         return 3;
     }
     let said = ascii::read(bytes, inputs, states, nexts, resets, gates, sizes, roots);
-    answered::put_words(answered::file_read(said), answered::word(said.top), answer);
-    let what = said.answer;
-    answered::number(what)
+    let file = answered::file_read(said);
+    answered::put_words(file, answered::text_top(said), answer);
+    answered::number(file)
 }
 
 // Writes an ordered circuit as `binary::write` does: 0, or a refusal's number. The first two words of `answer` are the literal at fault, and the bytes
 // written or, where the lent ones are too few, those needed; each 0 where there is none. Fewer than two words is refusal 3, tested first, and writes nothing
 // at all; then counts that are not five are refusal 2. No refusal writes a byte.
+#[tactic(auto, unfolding(crate::specs::Write::seen_by, crate::specs::Write::first_number, crate::specs::Write::first_words))]
 pub fn write(
     inputs: u32,
     counts: &[u32],
@@ -125,6 +129,7 @@ pub fn write(
 }
 
 // Writes an ordered circuit as `ascii::write` does, with the numbers and words of `write`.
+#[tactic(auto, unfolding(crate::specs::Write::seen_by, crate::specs::Write::first_number, crate::specs::Write::first_words))]
 pub fn write_text(
     inputs: u32,
     counts: &[u32],

@@ -3,8 +3,8 @@ ghost use Rattle.std.specs.Prelude.{◌≡◌, [], ◌∷◌, ◌≤◌, length}
 ghost use Rattle.circuit.specs.Outcome.{onto};
 ghost use Rattle.file_words.specs.Write.{shape_of, first_number, first_words, written_number, written_words};
 
-use binary::FileWritten;
-use ordered::given::{Shape, fault_literal, fault_number};
+use binary::Unwritten;
+use ordered::given::{Shape, fault_literal};
 
 // The circuit but for its lists.
 pub fn shape_of(inputs: u32, counts: &[u32]) -> Shape
@@ -28,6 +28,7 @@ fn put_words(words: &mut [u64], literal: u64, count: u64)
 
 // What is refused before there is a circuit to check: 3 where there are fewer than two answer words, which stay; then 2 where the counts are not five, and
 // the answer words say nothing; else 0, and they stay.
+#[tactic(auto, unfolding(crate::specs::Write::first_number, crate::specs::Write::first_words))]
 pub fn refused_first(counts: &[u32], answer: &mut [u64]) -> u32
     ensures { (result ≡ first_number counts.now answer.old)
         × (answer.new ≡ first_words counts.now answer.old) }
@@ -43,19 +44,19 @@ pub fn refused_first(counts: &[u32], answer: &mut [u64]) -> u32
 }
 
 // The answer's number, and its two words in the lent ones.
-pub fn put_answer(said: FileWritten, answer: &mut [u64]) -> u32
+pub fn put_answer(said: Result<usize, Unwritten>, answer: &mut [u64]) -> u32
     requires { 2 ≤ length answer.old }
     ensures { (result ≡ written_number said) × (answer.new ≡ onto (written_words said) answer.old) }
 {
     match said {
-        FileWritten::Written(n) => {
+        Ok(n) => {
             put_words(answer, 0, n as u64);
             0
         }
-        FileWritten::Unwritten { why, needed } => {
-            let literal = fault_literal(why);
-            put_words(answer, literal as u64, needed as u64);
-            fault_number(why)
+        Err(refused) => {
+            let literal = fault_literal(refused.why);
+            put_words(answer, literal as u64, refused.needed as u64);
+            u32::from(refused.why)
         }
     }
 }

@@ -14,65 +14,42 @@ pub struct Pair {
     pub smaller: Lit,
 }
 
-// What stands for a gate already.
-#[derive(Clone, Copy)]
-pub enum Already {
-    Code(Lit),
-    New,
-}
-
 impl Pair {
     // Two images, the larger code first.
+    #[tactic(auto, unfolding(crate::specs::Fold::larger_first))]
     pub fn of(x: Lit, y: Lit) -> Pair
         ensures { result ≡ larger_first x y }
     {
-        if x.code() < y.code() {
-            return Pair {
-                larger: y,
-                smaller: x,
-            };
-        }
         Pair {
-            larger: x,
-            smaller: y,
+            larger: x.max(y),
+            smaller: x.min(y),
         }
     }
 
-    // What folding makes of the gate: the first of four rows that fits it.
-    fn folded(self) -> Already
+    // What folding makes of the gate, if anything: the first of four rows that fits it.
+    #[tactic(auto, unfolding(circuit::specs::Walk::folded))]
+    fn folded(self) -> Option<Lit>
         ensures { result ≡ already_of (circuit-walk.folded self.larger.0 self.smaller.0) }
     {
-        let larger = self.larger;
-        let smaller = self.smaller;
-        let hi = larger.code();
-        let lo = smaller.code();
-        // row 1: either is 0, gives 0
-        if hi == 0 || lo == 0 {
-            return Already::Code(Lit::from_code(0));
+        let Pair { larger, smaller } = self;
+        match (larger.code(), smaller.code()) {
+            // row 1: either is 0, gives 0
+            (0, _) | (_, 0) => Some(Lit::from_code(0)),
+            // row 2: the larger is 1, gives the smaller
+            (1, _) => Some(smaller),
+            // row 3: both are equal, gives the smaller
+            (hi, lo) if hi == lo => Some(smaller),
+            // row 4: the smaller is 1, gives the larger
+            (_, 1) => Some(larger),
+            // no row: the gate stays
+            _ => None,
         }
-        // row 2: the larger is 1, gives the smaller
-        if hi == 1 {
-            return Already::Code(smaller);
-        }
-        // row 3: both are equal, gives the smaller
-        if hi == lo {
-            return Already::Code(smaller);
-        }
-        // row 4: the smaller is 1, gives the larger
-        if lo == 1 {
-            return Already::Code(larger);
-        }
-        // no row: the gate stays
-        Already::New
     }
 
     // The same, if folding is on.
-    pub fn folded_if(self, on: bool) -> Already
+    pub fn folded_if(self, on: bool) -> Option<Lit>
         ensures { result ≡ already_of (circuit-walk.folded_if on self.larger.0 self.smaller.0) }
     {
-        if on {
-            return self.folded();
-        }
-        Already::New
+        if on { self.folded() } else { None }
     }
 }

@@ -16,24 +16,20 @@ fn store_from(map: &mut [u32], literals: &[u32], first: u32)
     requires { first + 2 * length literals.now < 2 ^ 32 }
     ensures { map.new ≡ store_from map.old first literals.now }
 {
-    let mut i = 0;
     let mut code = first;
-    while i < literals.len() {
-        map::insert(map, Lit::from_code(literals[i]), Lit::from_code(code));
-        i += 1;
+    for literal in literals {
+        map::insert(map, Lit::from_code(*literal), Lit::from_code(code));
         code += 2;
     }
 }
 
 // The map at the start: the constant is 0, inputs and then latch states get 2, 4, .., and nothing else has an image. Where there are more inputs or
 // latches than check 1 lets by, the map stays.
+#[tactic(auto, unfolding(crate::specs::Begin::begun))]
 pub fn begin(map: &mut [u32], inputs: &[u32], states: &[u32])
     ensures { map.new ≡ begun map.old inputs.now states.now }
 {
-    if LIMIT < inputs.len() {
-        return;
-    }
-    if LIMIT < states.len() {
+    if LIMIT < inputs.len() || LIMIT < states.len() {
         return;
     }
     words::fill(map, map::NO_IMAGE);
@@ -46,13 +42,10 @@ pub fn begin(map: &mut [u32], inputs: &[u32], states: &[u32])
 pub fn images(map: &[u32], literals: &[u32], out: &mut [u32])
     ensures { out.new ≡ onto (images_in map.now literals.now) out.old }
 {
-    let mut i = 0;
-    while i < literals.len() {
-        if out.len() <= i {
-            return;
-        }
+    let count = literals.len().min(out.len());
+    // by index: tried as `out.iter_mut().zip(literals)`, and the proof does not close, as nothing is known of the list afterwards
+    for i in 0..count {
         out[i] = map::code_of(map::image(map, Lit::from_code(literals[i])));
-        i += 1;
     }
 }
 
@@ -60,10 +53,7 @@ pub fn images(map: &[u32], literals: &[u32], out: &mut [u32])
 fn renewed(own: u32, reset: u32) -> u32
     ensures { result ≡ carried own reset }
 {
-    if reset <= 1 {
-        return reset;
-    }
-    own
+    if reset <= 1 { reset } else { own }
 }
 
 // The same of a list of resets, onto the front of another, where the latches have the new literals first, first + 2, ..
@@ -71,26 +61,21 @@ fn carry_from(resets: &[u32], first: u32, list: &mut [u32])
     requires { first + 2 * length resets.now < 2 ^ 32 }
     ensures { list.new ≡ onto (carried_from first resets.now) list.old }
 {
-    let mut i = 0;
+    let count = resets.len().min(list.len());
     let mut own = first;
-    while i < resets.len() {
-        if list.len() <= i {
-            return;
-        }
+    // by index, as in `images`
+    for i in 0..count {
         list[i] = renewed(own, resets[i]);
-        i += 1;
         own += 2;
     }
 }
 
 // The resets of all latches, which come after so many inputs. Where there are more inputs or latches than check 1 lets by, the list stays.
+#[tactic(auto, unfolding(crate::specs::Begin::carried_onto))]
 pub fn carry(resets: &[u32], inputs: usize, out: &mut [u32])
     ensures { out.new ≡ carried_onto inputs resets.now out.old }
 {
-    if LIMIT < inputs {
-        return;
-    }
-    if LIMIT < resets.len() {
+    if LIMIT < inputs || LIMIT < resets.len() {
         return;
     }
     carry_from(resets, (2 + 2 * inputs) as u32, out);

@@ -32,8 +32,7 @@ use Rattle.binary.proofs.Same.{file_least}
 use Rattle.binary.proofs.Theorems as binary
 use Rattle.runs.specs.Carries.{SameQuestions}
 use Rattle.runs.proofs.Theorems as runs
-use Rattle.intake.specs.declared.OrderAnswer.TheVariants.{Ordered, Unread}
-use Rattle.intake.specs.Order.{Lists, Outcome, ordering}
+use Rattle.intake.specs.Order.{Ordered, Unread, answer_of, Lists, Outcome, ordering}
 use Rattle.intake.specs.Intake.{limits, Begins, Orders, LongBehind, Orderable, Says, IsOrdered, Ample}
 use Rattle.intake.proofs.Rooms.{limits_hold}
 use Rattle.intake.proofs.Through as through
@@ -72,7 +71,7 @@ module _ (bytes : List ℕ) (flags : ℕ) (l : Lists) (are : Bytes bytes) where
   out = (ordering bytes flags l).lists.bytes
 
   -- a success, and all that it asks
-  pub exactly_when : ((used : ℕ) × (written : ℕ) × ((ordering bytes flags l).said.answer ≡ Ordered used written)) ↔ Orderable bytes flags l
+  pub exactly_when : ((used : ℕ) × (written : ℕ) × (answer_of (ordering bytes flags l).said ≡ Ordered used written)) ↔ Orderable bytes flags l
   exactly_when = (to, from)
     where
       says : (used written : ℕ) → Says bytes flags l (Ordered used written) → Orderable bytes flags l
@@ -89,10 +88,10 @@ module _ (bytes : List ℕ) (flags : ℕ) (l : Lists) (are : Bytes bytes) where
             fits = omega (arith, w, p);
           }
 
-      to : (used : ℕ) × (written : ℕ) × ((ordering bytes flags l).said.answer ≡ Ordered used written) → Orderable bytes flags l
+      to : (used : ℕ) × (written : ℕ) × (answer_of (ordering bytes flags l).said ≡ Ordered used written) → Orderable bytes flags l
       to (used, written, e) = says used written ((exactly bytes flags l are (Ordered used written)).0 e)
 
-      from : Orderable bytes flags l → (used : ℕ) × (written : ℕ) × ((ordering bytes flags l).said.answer ≡ Ordered used written)
+      from : Orderable bytes flags l → (used : ℕ) × (written : ℕ) × (answer_of (ordering bytes flags l).said ≡ Ordered used written)
       from a = (
         a.used,
         length (file_of a.ordered),
@@ -117,7 +116,7 @@ module _ (bytes : List ℕ) (flags : ℕ) (l : Lists) (are : Bytes bytes) where
     pub no_twins : is_odd (flags / 2) ≡ true → (i j : ℕ) → i < j → j < length to.ordered.gates
         → get_or to.ordered.gates i no_pair ≢ get_or to.ordered.gates j no_pair
 
-  module _ (used written : ℕ) (success : (ordering bytes flags l).said.answer ≡ Ordered used written) where
+  module _ (used written : ℕ) (success : answer_of (ordering bytes flags l).said ≡ Ordered used written) where
     pub carried : Carried used written
     carried = go ((exactly bytes flags l are (Ordered used written)).0 success)
       where
@@ -240,26 +239,26 @@ module _ (bytes : List ℕ) (flags : ℕ) (l : Lists) (are : Bytes bytes) where
           scratch = omega (arith, few, ample.scratch);
         }
 
-    pub two_ends : ((why : Fault) × (place : ℕ) × ((ordering bytes flags l).said.answer ≡ Unread why place) × (why ≢ L.Short))
-        ⊎ ((used : ℕ) × (written : ℕ) × ((ordering bytes flags l).said.answer ≡ Ordered used written))
+    pub two_ends : ((why : Fault) × (place : ℕ) × (answer_of (ordering bytes flags l).said ≡ Unread why place) × (why ≢ L.Short))
+        ⊎ ((used : ℕ) × (written : ℕ) × (answer_of (ordering bytes flags l).said ≡ Ordered used written))
     two_ends = go (read_file bytes (room_of l.file)) refl
       where
         taken : (f : File) (n : ℕ) (e : read_file bytes (room_of l.file) ≡ got f n) → through.Finish bytes flags l f n e h
-            → (used : ℕ) × (written : ℕ) × ((ordering bytes flags l).said.answer ≡ Ordered used written)
+            → (used : ℕ) × (written : ℕ) × (answer_of (ordering bytes flags l).said ≡ Ordered used written)
         taken f n e (through.too_short_behind never a) = absurd (never (long_behind f (binary.read_sound bytes (room_of l.file) f n e).0))
         taken f n e (through.long_enough k done s a) =
             let to = through.to bytes flags l f n e h done s a in
             let sound = through.to_sound bytes flags l f n e h done s a in (
               n,
               length (file_of to),
-              ap (λ (y : Outcome). y.said.answer)
+              ap (λ (y : Outcome). answer_of y.said)
                   (through.written bytes flags l f n e h done s a
                   (omega (arith, file_most to sound, sound.well_ordered.variables, sound.well_ordered.few, sound.sets, ample.bytes))),
             )
 
         go : (R : Read File) → read_file bytes (room_of l.file) ≡ R
-            → ((why : Fault) × (place : ℕ) × ((ordering bytes flags l).said.answer ≡ Unread why place) × (why ≢ L.Short))
-            ⊎ ((used : ℕ) × (written : ℕ) × ((ordering bytes flags l).said.answer ≡ Ordered used written))
+            → ((why : Fault) × (place : ℕ) × (answer_of (ordering bytes flags l).said ≡ Unread why place) × (why ≢ L.Short))
+            ⊎ ((used : ℕ) × (written : ℕ) × (answer_of (ordering bytes flags l).said ≡ Ordered used written))
         go (no why place) e =
             inl (
               why,

@@ -22,9 +22,7 @@ use Rattle.binary.specs.Spelling.{Spells}
 use Rattle.binary.specs.Sound.{Holds}
 use Rattle.binary.specs.Write.{file_of}
 use Rattle.binary.proofs.Theorems as binary
-use Rattle.intake.specs.declared.OrderAnswer.{OrderAnswer}
-use Rattle.intake.specs.declared.OrderAnswer.TheVariants.{Ordered, Unread, Unordered, Unstored}
-use Rattle.intake.specs.Order.{Lists, Outcome, after_reading, ordering}
+use Rattle.intake.specs.Order.{OrderAnswer, Ordered, Unread, Unordered, Unstored, answer_of, Lists, Outcome, after_reading, ordering}
 use Rattle.intake.specs.Intake.{limits, Begins, circuit_for, Orders, LongBehind, Says}
 use Rattle.intake.proofs.Rooms.{respelled, limits_hold}
 use Rattle.intake.proofs.Through as through
@@ -67,17 +65,17 @@ module _ (bytes : List ℕ) (flags : ℕ) (l : Lists) where
   room = room_of l.file
 
   abbrev answer : OrderAnswer
-  answer = (ordering bytes flags l).said.answer
+  answer = answer_of (ordering bytes flags l).said
 
   -- what is refused where it is read
   unread : (why : Fault) (place : ℕ) → read_file bytes room ≡ no why place → answer ≡ Unread why place
   unfolding ordering
-  unread why place e = ap (λ (R : Read File). (after_reading (B.left R l.file) flags l).said.answer) e
+  unread why place e = ap (λ (R : Read File). answer_of (after_reading (B.left R l.file) flags l).said) e
 
   -- of a file that is read
   module _ (f : File) (n : ℕ) (e : read_file bytes room ≡ got f n) where
     over : 7 < flags → answer ≡ Unordered R.Misshapen
-    over h = ap (λ (y : Outcome). y.said.answer) (through.flags_over bytes flags l f n e h)
+    over h = ap (λ (y : Outcome). answer_of y.said) (through.flags_over bytes flags l f n e h)
 
     module _ (h : flags ≤ 7) where
       short : (LongBehind f l → ⊥) → answer ≡ Unordered R.Short
@@ -103,8 +101,8 @@ module _ (bytes : List ℕ) (flags : ℕ) (l : Lists) where
             where
               room_for : (length l.bytes < length (file_of (through.to bytes flags l f n e h done s a)))
                   ⊎ (length (file_of (through.to bytes flags l f n e h done s a)) ≤ length l.bytes) → Stores (through.to bytes flags l f n e h done s a)
-              room_for (inl less) = too_few less (ap (λ (y : Outcome). y.said.answer) (through.unwritten bytes flags l f n e h done s a less))
-              room_for (inr more) = fits more (ap (λ (y : Outcome). y.said.answer) (through.written bytes flags l f n e h done s a more))
+              room_for (inl less) = too_few less (ap (λ (y : Outcome). answer_of y.said) (through.unwritten bytes flags l f n e h done s a less))
+              room_for (inr more) = fits more (ap (λ (y : Outcome). answer_of y.said) (through.written bytes flags l f n e h done s a more))
 
   -- what is true gives its answer
   pub answered : (a : OrderAnswer) → Says bytes flags l a → answer ≡ a

@@ -17,9 +17,7 @@ use Rattle.binary.proofs.Theorems.{read_known}
 use Rattle.runs.specs.Runs.{Bits, nexts_of, Allows}
 use Rattle.runs.specs.Carries.{SameQuestions, SameVerdicts, Runs}
 use Rattle.runs.proofs.Theorems as runs
-use Rattle.intake.specs.declared.OrderAnswer.{OrderAnswer}
-use Rattle.intake.specs.declared.OrderAnswer.TheVariants.{Ordered, Unread}
-use Rattle.intake.specs.Order.{Lists, ordering}
+use Rattle.intake.specs.Order.{OrderAnswer, Ordered, Unread, answer_of, Lists, ordering}
 use Rattle.intake.specs.Intake.{limits, Begins, Orderable, Says, IsOrdered, Ample}
 use Rattle.intake.proofs.Ends as ends
 use Rattle.intake.proofs.After as after
@@ -28,7 +26,7 @@ use Rattle.intake.proofs.After as after
 module _ (bytes : List ℕ) (flags : ℕ) (l : Lists) (are : Bytes bytes) where
   -- what is answered, and the lent bytes afterwards
   abbrev answer : OrderAnswer
-  answer = (ordering bytes flags l).said.answer
+  answer = answer_of (ordering bytes flags l).said
 
   abbrev out : List ℕ
   out = (ordering bytes flags l).lists.bytes

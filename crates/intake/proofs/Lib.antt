@@ -6,3 +6,4 @@ pub mod Ends
 pub mod Through
 pub mod Rooms
 pub mod Steps
+pub mod Results

@@ -5,6 +5,7 @@ use mathlib.Core.Path.{◌≡◌, refl}
 use mathlib.Core.List.{List, [], ◌∷◌, ◌++◌}
 use native.Mathlib.Omega.{arith}
 use lib.ListN.{length, replicate}
+use Rattle.std.specs.Prelude.{Ok}
 use Rattle.lit.specs.Code.{is_odd, flipped}
 use Rattle.token.specs.Format.{digits_of, shortest}
 use Rattle.token.specs.Answer.{digits_at, uint_at, go_on_at, binary_at, delta_at, header_field_at, pair_at}
@@ -23,10 +24,8 @@ use Rattle.ordered.specs.Check.{too_large, uneven, checked}
 use Rattle.ordered.specs.Expand.{expansion}
 use Rattle.binary.specs.File.{gate_at, gates_at, sized_at, lists_at, body_at, read_file}
 use Rattle.binary.specs.Write.{parts_of, writing}
-use Rattle.intake.specs.declared.OrderAnswer.TheVariants.{Ordered, Unread, Unordered, Unstored}
-use Rattle.binary.specs.declared.FileAnswer.TheVariants as F
 use Rattle.intake.specs.Intake.{Ample}
-use Rattle.intake.specs.Order.{Lists, renumbering, onwards, ordering}
+use Rattle.intake.specs.Order.{Ordered, Unread, Unordered, Unstored, answer_of, Lists, renumbering, onwards, ordering}
 
 -- n cells and one more
 abbrev cells : ℕ → List ℕ
@@ -68,7 +67,7 @@ trimmed = 97 ∷ 105 ∷ 103 ∷ 32 ∷ 53 ∷ 32 ∷ 49 ∷ 32 ∷ 49 ∷ 32 �
 -- every cell after three successes, with no flag, with hashing and with trim
 pub ordered_pinned :
     (ordering file 0 lent ≡ record {
-      said = record { answer = Ordered 43 43; read = record { answer = F.Taken 43; inputs = 1; latches = 1; gates = 3; counts = 1 ∷ 1 ∷ 0 ∷ 1 ∷ 1 ∷ []; sets = 1 }; made = 3 };
+      said = Ok (record { read = record { used = 43; inputs = 1; latches = 1; gates = 3; counts = 1 ∷ 1 ∷ 0 ∷ 1 ∷ 1 ∷ []; sets = 1 }; made = 3; written = 43 });
       lists = record {
         file = record { nexts = 8 ∷ 77 ∷ []; resets = 1 ∷ 77 ∷ []; gates = 4 ∷ 2 ∷ 5 ∷ 3 ∷ 4 ∷ 2 ∷ 77 ∷ []; sizes = 1 ∷ 77 ∷ []; roots = 10 ∷ 9 ∷ 5 ∷ 6 ∷ 77 ∷ [] };
         codes = record { inputs = 2 ∷ 77 ∷ []; states = 4 ∷ 77 ∷ []; triples = 6 ∷ 4 ∷ 2 ∷ 8 ∷ 5 ∷ 3 ∷ 10 ∷ 4 ∷ 2 ∷ 77 ∷ [] };
@@ -85,7 +84,7 @@ pub ordered_pinned :
       };
     })
     × (ordering file 2 lent ≡ record {
-      said = record { answer = Ordered 43 40; read = record { answer = F.Taken 43; inputs = 1; latches = 1; gates = 3; counts = 1 ∷ 1 ∷ 0 ∷ 1 ∷ 1 ∷ []; sets = 1 }; made = 2 };
+      said = Ok (record { read = record { used = 43; inputs = 1; latches = 1; gates = 3; counts = 1 ∷ 1 ∷ 0 ∷ 1 ∷ 1 ∷ []; sets = 1 }; made = 2; written = 40 });
       lists = record {
         file = record { nexts = 8 ∷ 77 ∷ []; resets = 1 ∷ 77 ∷ []; gates = 4 ∷ 2 ∷ 5 ∷ 3 ∷ 4 ∷ 2 ∷ 77 ∷ []; sizes = 1 ∷ 77 ∷ []; roots = 10 ∷ 9 ∷ 5 ∷ 6 ∷ 77 ∷ [] };
         codes = record { inputs = 2 ∷ 77 ∷ []; states = 4 ∷ 77 ∷ []; triples = 6 ∷ 4 ∷ 2 ∷ 8 ∷ 5 ∷ 3 ∷ 10 ∷ 4 ∷ 2 ∷ 77 ∷ [] };
@@ -102,7 +101,7 @@ pub ordered_pinned :
       };
     })
     × (ordering file 1 lent ≡ record {
-      said = record { answer = Ordered 43 43; read = record { answer = F.Taken 43; inputs = 1; latches = 1; gates = 3; counts = 1 ∷ 1 ∷ 0 ∷ 1 ∷ 1 ∷ []; sets = 1 }; made = 3 };
+      said = Ok (record { read = record { used = 43; inputs = 1; latches = 1; gates = 3; counts = 1 ∷ 1 ∷ 0 ∷ 1 ∷ 1 ∷ []; sets = 1 }; made = 3; written = 43 });
       lists = record {
         file = record { nexts = 8 ∷ 77 ∷ []; resets = 1 ∷ 77 ∷ []; gates = 4 ∷ 2 ∷ 5 ∷ 3 ∷ 4 ∷ 2 ∷ 77 ∷ []; sizes = 1 ∷ 77 ∷ []; roots = 10 ∷ 9 ∷ 5 ∷ 6 ∷ 77 ∷ [] };
         codes = record { inputs = 2 ∷ 77 ∷ []; states = 4 ∷ 77 ∷ []; triples = 6 ∷ 4 ∷ 2 ∷ 8 ∷ 5 ∷ 3 ∷ 10 ∷ 4 ∷ 2 ∷ 77 ∷ [] };
@@ -126,9 +125,9 @@ ordered_pinned = (refl, refl, refl)
 
 -- flags over 7 are 2, and the file's own refusal comes before it
 pub flags_pinned :
-    ((ordering file 8 lent).said.answer ≡ Unordered R.Misshapen)
-    × ((ordering file 4294967295 (lend 0 0 0 0 0 0 0 0 0 0)).said.answer ≡ Unordered R.Misshapen)
-    × ((ordering (97 ∷ 105 ∷ 103 ∷ 32 ∷ 49 ∷ 32 ∷ 48 ∷ 32 ∷ 48 ∷ 32 ∷ 48 ∷ 32 ∷ 48 ∷ 10 ∷ []) 8 lent).said.answer ≡ Unread Above 14)
+    (answer_of (ordering file 8 lent).said ≡ Unordered R.Misshapen)
+    × (answer_of (ordering file 4294967295 (lend 0 0 0 0 0 0 0 0 0 0)).said ≡ Unordered R.Misshapen)
+    × (answer_of (ordering (97 ∷ 105 ∷ 103 ∷ 32 ∷ 49 ∷ 32 ∷ 48 ∷ 32 ∷ 48 ∷ 32 ∷ 48 ∷ 32 ∷ 48 ∷ 10 ∷ []) 8 lent).said ≡ Unread Above 14)
 unfolding ordering onwards renumbering is_odd expansion outcome conclusion too_big misshapen too_short after renumber numbered codes walk_all walked start store flipped walk look
     image_in entry_image through_inputs settle settle_on settle_as already next_code first_code folded code_of ordered_of images_in digits_of digits_at uint_at go_on_at binary_at delta_at header_field_at
     pair_at is_byte byte_at tag_at number_at line_at lines_at reset_line_at reset_at latch_at latches_at count_at others_at counts_at header_at root_room_at properties_at sizes_at roots_at gate_at gates_at
@@ -138,18 +137,18 @@ flags_pinned = (refl, refl, refl)
 -- each list behind the file's a cell too short is 3 of renumbering; with just as many cells and bytes as are asked it is ordered; a byte too few is 3 of writing, with
 -- the bytes needed
 pub rooms_pinned :
-    ((ordering file 0 (lend 0 1 9 6 1 1 4 6 27 60)).said.answer ≡ Unordered R.Short)
-    × ((ordering file 0 (lend 1 0 9 6 1 1 4 6 27 60)).said.answer ≡ Unordered R.Short)
-    × ((ordering file 0 (lend 1 1 8 6 1 1 4 6 27 60)).said.answer ≡ Unordered R.Short)
-    × ((ordering file 0 (lend 1 1 9 5 1 1 4 6 27 60)).said.answer ≡ Unordered R.Short)
-    × ((ordering file 0 (lend 1 1 9 6 0 1 4 6 27 60)).said.answer ≡ Unordered R.Short)
-    × ((ordering file 0 (lend 1 1 9 6 1 0 4 6 27 60)).said.answer ≡ Unordered R.Short)
-    × ((ordering file 0 (lend 1 1 9 6 1 1 3 6 27 60)).said.answer ≡ Unordered R.Short)
-    × ((ordering file 0 (lend 1 1 9 6 1 1 4 5 27 60)).said.answer ≡ Unordered R.Short)
-    × ((ordering file 0 (lend 1 1 9 6 1 1 4 6 26 60)).said.answer ≡ Unordered R.Short)
-    × ((ordering file 0 (lend 1 1 9 6 1 1 4 6 27 43)).said.answer ≡ Ordered 43 43)
-    × ((ordering file 0 (lend 1 1 9 6 1 1 4 6 27 42)).said.answer ≡ Unstored G.Short 43)
-    × ((ordering file 2 (lend 1 1 9 6 1 1 4 6 27 0)).said.answer ≡ Unstored G.Short 40)
+    (answer_of (ordering file 0 (lend 0 1 9 6 1 1 4 6 27 60)).said ≡ Unordered R.Short)
+    × (answer_of (ordering file 0 (lend 1 0 9 6 1 1 4 6 27 60)).said ≡ Unordered R.Short)
+    × (answer_of (ordering file 0 (lend 1 1 8 6 1 1 4 6 27 60)).said ≡ Unordered R.Short)
+    × (answer_of (ordering file 0 (lend 1 1 9 5 1 1 4 6 27 60)).said ≡ Unordered R.Short)
+    × (answer_of (ordering file 0 (lend 1 1 9 6 0 1 4 6 27 60)).said ≡ Unordered R.Short)
+    × (answer_of (ordering file 0 (lend 1 1 9 6 1 0 4 6 27 60)).said ≡ Unordered R.Short)
+    × (answer_of (ordering file 0 (lend 1 1 9 6 1 1 3 6 27 60)).said ≡ Unordered R.Short)
+    × (answer_of (ordering file 0 (lend 1 1 9 6 1 1 4 5 27 60)).said ≡ Unordered R.Short)
+    × (answer_of (ordering file 0 (lend 1 1 9 6 1 1 4 6 26 60)).said ≡ Unordered R.Short)
+    × (answer_of (ordering file 0 (lend 1 1 9 6 1 1 4 6 27 43)).said ≡ Ordered 43 43)
+    × (answer_of (ordering file 0 (lend 1 1 9 6 1 1 4 6 27 42)).said ≡ Unstored G.Short 43)
+    × (answer_of (ordering file 2 (lend 1 1 9 6 1 1 4 6 27 0)).said ≡ Unstored G.Short 40)
 unfolding ordering onwards renumbering is_odd expansion outcome conclusion too_big misshapen too_short after renumber numbered codes walk_all walked start store flipped walk look
     image_in entry_image through_inputs settle settle_on settle_as already next_code first_code folded code_of ordered_of images_in digits_of digits_at uint_at go_on_at binary_at delta_at header_field_at
     pair_at is_byte byte_at tag_at number_at line_at lines_at reset_line_at reset_at latch_at latches_at count_at others_at counts_at header_at root_room_at properties_at sizes_at roots_at gate_at gates_at

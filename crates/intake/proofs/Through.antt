@@ -9,13 +9,13 @@ use native.Mathlib.Omega.{arith}
 use lib.Dec.{ltb, eqb}
 use lib.ListN.{length, get_or, take}
 use lib.Seq.{length-take-le}
+use Rattle.std.specs.Prelude.{Ok, Err}
 use borrow.Author.Tests.{lt-ltb, le-ltb, ltb-true, ltb-false, eq-eqb}
 use Rattle.lit.specs.Code.{is_odd}
 use Rattle.circuit.specs.declared.Refusal.{Refusal}
 use Rattle.circuit.specs.declared.Refusal.TheVariants as R
 use Rattle.circuit.specs.declared.Summary.{Summary}
-use Rattle.circuit.specs.declared.Answer.{Answer}
-use Rattle.circuit.specs.declared.Answer.TheVariants.{Renumbered, Refused}
+use Rattle.circuit.specs.Answer.{Answer}
 use Rattle.circuit.specs.Walk.{Work, Out, reached, first_code}
 use Rattle.circuit.specs.Circuit.{Circuit, renumber}
 use Rattle.circuit.specs.Ordered as O
@@ -28,29 +28,27 @@ use Rattle.circuit.proofs.Outcome.{onto-take}
 use Rattle.circuit.proofs.Ordered.{count_from-length, gates_from-length}
 use Rattle.circuit.proofs.Success as S
 use Rattle.lines.specs.Reading.{Read, got}
-use Rattle.ordered.specs.declared.Expansion.{Expansion}
-use Rattle.ordered.specs.declared.Expansion.TheVariants.{Expanded, Short}
+use Rattle.ordered.specs.declared.Unexpanded.TheVariants.{Short}
 use Rattle.ordered.specs.declared.given.Fault.TheVariants as G
 use Rattle.ordered.specs.WellOrdered.{WellOrdered}
 use Rattle.ordered.specs.Keeps.{Keeps}
 use Rattle.ordered.specs.Check.{Words, words_of}
 use Rattle.ordered.specs.Expand as E
-use Rattle.ordered.specs.Expand.{expansion}
+use Rattle.ordered.specs.Expand.{Expansion, expansion}
 use Rattle.ordered.proofs.Laid.{words_length}
 use Rattle.ordered.proofs.Exactly.{words_back}
 use Rattle.ordered.proofs.Passing.{within, agrees}
 use Rattle.ordered.proofs.Theorems as ordered
 use Rattle.binary.specs.declared.FileRead.{FileRead}
-use Rattle.binary.specs.declared.FileWritten.TheVariants.{Written, Unwritten}
 use Rattle.binary.specs.File.{File, read_file}
 use Rattle.binary.specs.Promise as B
 use Rattle.binary.specs.Promise.{room_of}
 use Rattle.binary.specs.Known.{Known}
 use Rattle.binary.specs.Sound.{Sound, result_with}
-use Rattle.binary.specs.Write.{file_of, wrote, written_to, writing}
+use Rattle.binary.specs.Write.{file_of, unwritten as not_written, wrote, written_to, writing}
 use Rattle.binary.proofs.Theorems as binary
-use Rattle.intake.specs.declared.OrderAnswer.TheVariants.{Ordered, Unordered, Unstored}
-use Rattle.intake.specs.Order.{Lists, taken_of, handed, unless_expanded, Renumbering, leaving, renumbering, handed_on, lists, images_in, Outcome, seen, saying, after_writing, after_answer, after_renumbering, onwards, after_reading, ordering, Coded}
+use Rattle.intake.specs.declared.OrderFault.TheVariants as F
+use Rattle.intake.specs.Order.{Unordered, answer_of, Lists, taken_of, handed, unless_expanded, Renumbering, leaving, renumbering, handed_on, lists, images_in, Outcome, seen, after_writing, after_answer, after_renumbering, onwards, after_reading, ordering, Coded}
 use Rattle.intake.specs.Intake.{circuit_for, Orders, LongBehind}
 use Rattle.intake.proofs.Steps.{over_seven}
 
@@ -78,7 +76,7 @@ module _ (bytes : List ℕ) (flags : ℕ) (l : Lists) (f : File) (n : ℕ) (read
 
   -- what reading answers, and the lists that it leaves
   abbrev r : FileRead
-  r = B.answered (got f n)
+  r = B.file_read f n
 
   abbrev file : B.Lists
   file = B.written f l.file
@@ -92,13 +90,13 @@ module _ (bytes : List ℕ) (flags : ℕ) (l : Lists) (f : File) (n : ℕ) (read
   abbrev lent : Lent
   lent = handed r flags (taken_of file) x.lists l.images
 
-  goes : ordering bytes flags l ≡ onwards n r flags after
+  goes : ordering bytes flags l ≡ onwards r flags after
   unfolding ordering
   goes = ap (λ (R : Read File). after_reading (B.left R l.file) flags l) read
 
   -- flags over 7
-  pub flags_over : 7 < flags → ordering bytes flags l ≡ seen (saying (Unordered R.Misshapen) r 0) after
-  flags_over h = goes ∙ sym (over_seven n r flags after h)
+  pub flags_over : 7 < flags → ordering bytes flags l ≡ seen (Err (F.Unordered R.Misshapen r)) after
+  flags_over h = goes ∙ sym (over_seven r flags after h)
 
   counts : total f.ordered.counts ≡ length f.ordered.roots
   counts = well.counts
@@ -126,8 +124,8 @@ module _ (bytes : List ℕ) (flags : ℕ) (l : Lists) (f : File) (n : ℕ) (read
 
   -- a circuit within the limits is expanded, or a list for its codes is too short
   pub data Expands : E.Outcome → Type 0 where
-    expanded : Coded r l.codes → (o : E.Outcome) → o.answer ≡ Expanded → Expands o
-    too_short : (LongBehind f l → ⊥) → (o : E.Outcome) → o.answer ≡ Short → Expands o
+    expanded : Coded r l.codes → (o : E.Outcome) → o.answer ≡ E.expanded → Expands o
+    too_short : (LongBehind f l → ⊥) → (o : E.Outcome) → o.answer ≡ Err Short → Expands o
 
   ends_expanding : Expands x
   unfolding expansion
@@ -162,26 +160,26 @@ module _ (bytes : List ℕ) (flags : ℕ) (l : Lists) (f : File) (n : ℕ) (read
     abbrev q : Renumbering
     q = renumbering r flags file.gates (taken_of file) l.codes l.images
 
-    on : ordering bytes flags l ≡ after_renumbering n r after q
+    on : ordering bytes flags l ≡ after_renumbering r after q
     unfolding onwards
     on = goes ∙ (let e = le-ltb 7 flags h in rw e)
 
     -- what expanding left, and what that leaves of renumbering
-    by_expansion : (y : Expansion) → x.answer ≡ y → ordering bytes flags l ≡ after_renumbering n r after (leaving x.lists (unless_expanded y lent))
+    by_expansion : (y : Expansion) → x.answer ≡ y → ordering bytes flags l ≡ after_renumbering r after (leaving x.lists (unless_expanded y lent))
     unfolding renumbering
-    by_expansion y e = on ∙ ap (λ (z : Expansion). after_renumbering n r after (leaving x.lists (unless_expanded z lent))) e
+    by_expansion y e = on ∙ ap (λ (z : Expansion). after_renumbering r after (leaving x.lists (unless_expanded z lent))) e
 
     -- the codes' lists are too short
-    pub unexpanded : x.answer ≡ Short
-        → ordering bytes flags l ≡ seen (saying (Unordered R.Short) r 0) (lists file x.lists l.images l.bytes)
-    unexpanded e = by_expansion Short e
+    pub unexpanded : x.answer ≡ Err Short
+        → ordering bytes flags l ≡ seen (Err (F.Unordered R.Short r)) (lists file x.lists l.images l.bytes)
+    unexpanded e = by_expansion (Err Short) e
 
-    module _ (done : x.answer ≡ Expanded) where
+    module _ (done : x.answer ≡ E.expanded) where
       abbrev o : C.Outcome
       o = C.outcome lent
 
-      its : ordering bytes flags l ≡ after_renumbering n r after (leaving x.lists o)
-      its = by_expansion Expanded done
+      its : ordering bytes flags l ≡ after_renumbering r after (leaving x.lists o)
+      its = by_expansion E.expanded done
 
       -- the circuit lent is the file's, with the flags
       circuit_is : circuit_of lent ≡ circuit_for flags f
@@ -212,13 +210,13 @@ module _ (bytes : List ℕ) (flags : ℕ) (l : Lists) (f : File) (n : ℕ) (read
           }
 
       -- where renumbering refuses, it is by 3
-      pub only_short : (why : Refusal) → o.answer ≡ Refused why → (why ≡ R.Short) × (Roomy lent (circuit_of lent) → ⊥)
+      pub only_short : (why : Refusal) → o.answer ≡ Err why → (why ≡ R.Short) × (Roomy lent (circuit_of lent) → ⊥)
       only_short why e = (go why ((demands lent).refusals_true why e), renumbers)
         where
           renumbers : Roomy lent (circuit_of lent) → ⊥
           renumbers k =
               let a = ordered.always_renumbers f.ordered well (is_odd flags) (is_odd (flags / 2)) (is_odd (flags / 4)) l.codes x expands done lent lends k in
-              let z : Renumbered a.0 ≡ Refused why = sym a.1 ∙ e in
+              let z : ◌≡◌ {A = Answer} (Ok a.0) (Err why) = sym a.1 ∙ e in
               let z' : ◌≡◌ {A = ℕ} 0 1 = cc in omega arith
 
           go : (why' : Refusal) → IsTrue lent why' → why' ≡ R.Short
@@ -233,12 +231,12 @@ module _ (bytes : List ℕ) (flags : ℕ) (l : Lists) (f : File) (n : ℕ) (read
           go (R.Undefined d) t = absurd (renumbers t.0.sizes.roomy)
           go (R.Cycle d) t = absurd (renumbers t.0.sizes.roomy)
 
-      pub refuses : (why : Refusal) → o.answer ≡ Refused why
-          → ordering bytes flags l ≡ seen (saying (Unordered R.Short) r 0) (lists file x.lists (images_in o) l.bytes)
+      pub refuses : (why : Refusal) → o.answer ≡ Err why
+          → ordering bytes flags l ≡ seen (Err (F.Unordered R.Short r)) (lists file x.lists (images_in o) l.bytes)
       refuses why e =
-          its ∙ ap (λ (y : Answer). after_answer y n r file x.lists (images_in o) l.bytes) (e ∙ ap (λ (y : Refusal). Refused y) (only_short why e).0)
+          its ∙ ap (λ (y : Answer). after_answer y r file x.lists (images_in o) l.bytes) (e ∙ ap (λ (y : Refusal). Err y) (only_short why e).0)
 
-      module _ (s : Summary) (e : o.answer ≡ Renumbered s) where
+      module _ (s : Summary) (e : o.answer ≡ Ok s) where
         -- the file that is written
         abbrev pub to : File
         to = result_with lent s f.sizes
@@ -303,42 +301,42 @@ module _ (bytes : List ℕ) (flags : ℕ) (l : Lists) (f : File) (n : ℕ) (read
             }
 
         -- so it is written as such, where it fits
-        pub writes : ordering bytes flags l ≡ after_writing n r s.made file x.lists (images_in o) (written_to (file_of to) l.bytes)
+        pub writes : ordering bytes flags l ≡ after_writing r s.made file x.lists (images_in o) (written_to (file_of to) l.bytes)
         writes =
-            its ∙ ap (λ (y : Answer). after_answer y n r file x.lists (images_in o) l.bytes) e
-            ∙ ap (λ (w : Words). after_writing n r s.made file x.lists (images_in o) (writing w l.bytes)) handed_on_lem
-            ∙ ap (after_writing n r s.made file x.lists (images_in o)) (binary.sound_written to to_sound l.bytes)
+            its ∙ ap (λ (y : Answer). after_answer y r file x.lists (images_in o) l.bytes) e
+            ∙ ap (λ (w : Words). after_writing r s.made file x.lists (images_in o) (writing w l.bytes)) handed_on_lem
+            ∙ ap (after_writing r s.made file x.lists (images_in o)) (binary.sound_written to to_sound l.bytes)
 
         pub written : length (file_of to) ≤ length l.bytes
             → ordering bytes flags l
-            ≡ seen (saying (Ordered n (length (file_of to))) r s.made) (lists file x.lists (images_in o) (C.onto (file_of to) l.bytes))
+            ≡ seen (Ok (record { read = r; made = s.made; written = length (file_of to) })) (lists file x.lists (images_in o) (C.onto (file_of to) l.bytes))
         written k =
             writes
-            ∙ ap (λ (b : Bool). after_writing n r s.made file x.lists (images_in o)
-            (cond b (wrote (Unwritten G.Short (length (file_of to))) l.bytes) (wrote (Written (length (file_of to))) (C.onto (file_of to) l.bytes))))
+            ∙ ap (λ (b : Bool). after_writing r s.made file x.lists (images_in o)
+            (cond b (wrote (not_written G.Short (length (file_of to))) l.bytes) (wrote (Ok (length (file_of to))) (C.onto (file_of to) l.bytes))))
             (le-ltb (length l.bytes) (length (file_of to)) k)
 
         pub unwritten : length l.bytes < length (file_of to)
-            → ordering bytes flags l ≡ seen (saying (Unstored G.Short (length (file_of to))) r s.made) (lists file x.lists (images_in o) l.bytes)
+            → ordering bytes flags l ≡ seen (Err (F.Unstored (record { why = G.Short; needed = length (file_of to) }) r s.made)) (lists file x.lists (images_in o) l.bytes)
         unwritten k =
             writes
-            ∙ ap (λ (b : Bool). after_writing n r s.made file x.lists (images_in o)
-            (cond b (wrote (Unwritten G.Short (length (file_of to))) l.bytes) (wrote (Written (length (file_of to))) (C.onto (file_of to) l.bytes))))
+            ∙ ap (λ (b : Bool). after_writing r s.made file x.lists (images_in o)
+            (cond b (wrote (not_written G.Short (length (file_of to))) l.bytes) (wrote (Ok (length (file_of to))) (C.onto (file_of to) l.bytes))))
             (lt-ltb (length l.bytes) (length (file_of to)) k)
 
     -- how it ends, with flags that are taken: a list behind the file's is too short, and the answer is 3; or all of them are long enough, and it is renumbered
     pub data Finish : Type 0 where
-      too_short_behind : (LongBehind f l → ⊥) → (ordering bytes flags l).said.answer ≡ Unordered R.Short → Finish
-      long_enough : LongBehind f l → (done : x.answer ≡ Expanded) (s : Summary) → (C.outcome lent).answer ≡ Renumbered s → Finish
+      too_short_behind : (LongBehind f l → ⊥) → answer_of (ordering bytes flags l).said ≡ Unordered R.Short → Finish
+      long_enough : LongBehind f l → (done : x.answer ≡ E.expanded) (s : Summary) → (C.outcome lent).answer ≡ Ok s → Finish
 
     pub finish : Finish
     finish = go x refl ends_expanding
       where
-        answered : (codes : Coded r l.codes) (done : x.answer ≡ Expanded) (a : Answer) → (C.outcome lent).answer ≡ a → Finish
-        answered codes done (Renumbered s) e = long_enough (roomy_long done codes ((demands lent).success s e).passes.sizes.roomy) done s e
-        answered codes done (Refused why) e =
-            too_short_behind (λ k. (only_short done why e).1 (long_roomy done k)) (ap (λ (y : Outcome). y.said.answer) (refuses done why e))
+        answered : (codes : Coded r l.codes) (done : x.answer ≡ E.expanded) (a : Answer) → (C.outcome lent).answer ≡ a → Finish
+        answered codes done (Ok s) e = long_enough (roomy_long done codes ((demands lent).success s e).passes.sizes.roomy) done s e
+        answered codes done (Err why) e =
+            too_short_behind (λ k. (only_short done why e).1 (long_roomy done k)) (ap (λ (y : Outcome). answer_of y.said) (refuses done why e))
 
         go : (o : E.Outcome) → x ≡ o → Expands o → Finish
-        go o p (too_short never o' e) = too_short_behind never (ap (λ (y : Outcome). y.said.answer) (unexpanded (ap (λ (y : E.Outcome). y.answer) p ∙ e)))
+        go o p (too_short never o' e) = too_short_behind never (ap (λ (y : Outcome). answer_of y.said) (unexpanded (ap (λ (y : E.Outcome). y.answer) p ∙ e)))
         go o p (expanded codes o' e) = answered codes (ap (λ (y : E.Outcome). y.answer) p ∙ e) (C.outcome lent).answer refl

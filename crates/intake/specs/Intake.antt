@@ -16,9 +16,7 @@ use Rattle.binary.specs.Known as K
 use Rattle.binary.specs.Sound.{Holds}
 use Rattle.binary.specs.Plain.{Plain}
 use Rattle.binary.specs.Write.{file_of}
-use Rattle.intake.specs.declared.OrderAnswer.{OrderAnswer}
-use Rattle.intake.specs.declared.OrderAnswer.TheVariants.{Ordered, Unread, Unordered, Unstored}
-use Rattle.intake.specs.Order.{Lists}
+use Rattle.intake.specs.Order.{Lists, OrderAnswer, Ordered, Unread, Unordered, Unstored}
 
 -- lists of the limits, which hold every file
 abbrev pub limits : Room

@@ -1,29 +1,47 @@
 -- From the bytes of a file to those of the ordered file: reading, expanding, renumbering and writing one after the other, what that answers, and what each lent
 -- list and the lent bytes are afterwards. Assumes nothing.
-use Rattle.std.specs.Prelude.{ℕ, ◌*◌, ◌/◌, ◌≤◌, cond, List, ltb, length, take}
+use Rattle.std.specs.Prelude.{ℕ, ◌*◌, ◌/◌, ◌≤◌, cond, List, ltb, length, take, Result, Ok, Err}
 use Rattle.lit.specs.Code.{is_odd, variable}
+use Rattle.circuit.specs.declared.Refusal.{Refusal}
 use Rattle.circuit.specs.declared.Refusal.TheVariants as R
 use Rattle.circuit.specs.declared.CircuitRecord.{CircuitRecord}
-use Rattle.circuit.specs.declared.Answer.{Answer}
-use Rattle.circuit.specs.declared.Answer.TheVariants.{Renumbered, Refused}
+use Rattle.circuit.specs.Answer.{Answer}
 use Rattle.circuit.specs.Outcome as C
 use Rattle.circuit.specs.Outcome.{Lent, lent_of, limit, total, untouched}
-use Rattle.ordered.specs.declared.Expansion.{Expansion}
-use Rattle.ordered.specs.declared.Expansion.TheVariants.{Expanded, TooBig, Misshapen, Short}
+use Rattle.lines.specs.declared.Broken.{Broken}
+use Rattle.lines.specs.declared.Fault.{Fault}
+use Rattle.ordered.specs.declared.given.Fault as G
+use Rattle.ordered.specs.declared.Unexpanded.{Unexpanded}
+use Rattle.ordered.specs.declared.Unexpanded.TheVariants.{TooBig, Misshapen, Short}
 use Rattle.ordered.specs.Expand as E
-use Rattle.ordered.specs.Expand.{expansion}
+use Rattle.ordered.specs.Expand.{Expansion, expansion}
 use Rattle.ordered.specs.Check.{Words}
-use Rattle.binary.specs.declared.FileAnswer.{FileAnswer}
-use Rattle.binary.specs.declared.FileAnswer.TheVariants as F
 use Rattle.binary.specs.declared.FileRead.{FileRead}
-use Rattle.binary.specs.declared.FileWritten.{FileWritten}
-use Rattle.binary.specs.declared.FileWritten.TheVariants.{Written, Unwritten}
+use Rattle.binary.specs.declared.Unwritten as U
 use Rattle.binary.specs.Promise as B
 use Rattle.binary.specs.Way.{top_of}
 use Rattle.binary.specs.Write.{Writing, writing}
-use Rattle.intake.specs.declared.OrderAnswer.{OrderAnswer}
-use Rattle.intake.specs.declared.OrderAnswer.TheVariants.{Ordered, Unread, Unordered, Unstored}
-use Rattle.intake.specs.declared.Ordering.{Ordering}
+use Rattle.intake.specs.declared.Ordered as D
+use Rattle.intake.specs.declared.OrderFault.{OrderFault}
+use Rattle.intake.specs.declared.OrderFault.TheVariants as F
+
+-- how the call ends: a file that is ordered, or why none is written
+abbrev pub Ordering : Type 0
+Ordering = Result D.Ordered OrderFault
+
+-- the same but for the numbers beside it, of the file that was read and of the gates made: the bytes that the file took and those that were written; or the file's own
+-- refusal, with its place; or renumbering's; or that of writing, with how many bytes are needed
+pub data OrderAnswer : Type 0 where
+  Ordered : ℕ → ℕ → OrderAnswer
+  Unread : Fault → ℕ → OrderAnswer
+  Unordered : Refusal → OrderAnswer
+  Unstored : G.Fault → ℕ → OrderAnswer
+
+abbrev pub answer_of : Ordering → OrderAnswer
+answer_of (Ok o) = Ordered o.read.used o.written
+answer_of (Err (F.Unread e)) = Unread e.why e.place
+answer_of (Err (F.Unordered why read)) = Unordered why
+answer_of (Err (F.Unstored u read made)) = Unstored u.why u.needed
 
 -- the lists that renumbering writes
 pub record Images : Type 0 where
@@ -63,12 +81,16 @@ handed r flags c codes m =
     (take r.latches c.resets) (take (3 * r.gates) codes.triples) (take (total r.counts) c.roots) m.map m.next_images
     m.reset_images m.root_images m.gates_out m.scratch
 
--- where the codes could not be expanded nothing is renumbered, and the reason is the expansion's
+-- what is not expanded is refused by the reason of that name
+abbrev pub refusal_of : Unexpanded → Refusal
+refusal_of TooBig = R.TooBig
+refusal_of Misshapen = R.Misshapen
+refusal_of Short = R.Short
+
+-- where the codes could not be expanded nothing is renumbered
 abbrev pub unless_expanded : Expansion → Lent → C.Outcome
-unless_expanded Expanded given = C.outcome given
-unless_expanded TooBig given = untouched given R.TooBig
-unless_expanded Misshapen given = untouched given R.Misshapen
-unless_expanded Short given = untouched given R.Short
+unless_expanded (Ok t) given = C.outcome given
+unless_expanded (Err why) given = untouched given (refusal_of why)
 
 -- what expanding and renumbering leave: the codes, and the outcome of renumbering
 pub record Renumbering : Type 0 where
@@ -121,40 +143,36 @@ pub record Outcome : Type 0 where
 abbrev pub seen : Ordering → Lists → Outcome
 seen said lists = record { said = said; lists = lists }
 
--- an answer, beside the numbers of what was read and the number of gates made
-abbrev pub saying : OrderAnswer → FileRead → ℕ → Ordering
-saying answer read made = record { answer = answer; read = read; made = made }
+-- what writing so many gates made answered, of a file that was read
+abbrev pub stored : FileRead → ℕ → Result ℕ U.Unwritten → Ordering
+stored r made (Ok n) = Ok (record { read = r; made = made; written = n })
+stored r made (Err e) = Err (F.Unstored e r made)
 
--- what writing answered, of a file that took so many bytes
-abbrev pub stored : ℕ → FileWritten → OrderAnswer
-stored used (Written n) = Ordered used n
-stored used (Unwritten why needed) = Unstored why needed
-
-abbrev pub after_writing : ℕ → FileRead → ℕ → B.Lists → E.Lists → Images → Writing → Outcome
-after_writing used r made file codes m w = seen (saying (stored used w.answer) r made) (lists file codes m w.bytes)
+abbrev pub after_writing : FileRead → ℕ → B.Lists → E.Lists → Images → Writing → Outcome
+after_writing r made file codes m w = seen (stored r made w.answer) (lists file codes m w.bytes)
 
 -- what renumbering answered: its refusal is the answer; or what was made is written
-abbrev pub after_answer : Answer → ℕ → FileRead → B.Lists → E.Lists → Images → List ℕ → Outcome
-after_answer (Refused why) used r file codes m bytes = seen (saying (Unordered why) r 0) (lists file codes m bytes)
-after_answer (Renumbered s) used r file codes m bytes =
-    after_writing used r s.made file codes m (writing (handed_on r s.made file.sizes m) bytes)
+abbrev pub after_answer : Answer → FileRead → B.Lists → E.Lists → Images → List ℕ → Outcome
+after_answer (Err why) r file codes m bytes = seen (Err (F.Unordered why r)) (lists file codes m bytes)
+after_answer (Ok s) r file codes m bytes =
+    after_writing r s.made file codes m (writing (handed_on r s.made file.sizes m) bytes)
 
-abbrev pub after_renumbering : ℕ → FileRead → Lists → Renumbering → Outcome
-after_renumbering used r l m = after_answer m.outcome.answer used r l.file m.codes (images_in m.outcome) l.bytes
+abbrev pub after_renumbering : FileRead → Lists → Renumbering → Outcome
+after_renumbering r l m = after_answer m.outcome.answer r l.file m.codes (images_in m.outcome) l.bytes
 
 -- a file that is taken, its lists filled: flags over 7 are 2; else it is renumbered
-unfoldable pub onwards : ℕ → FileRead → ℕ → Lists → Outcome
-onwards used r flags l =
-    cond (ltb 7 flags) (seen (saying (Unordered R.Misshapen) r 0) l)
-    (after_renumbering used r l (renumbering r flags l.file.gates (taken_of l.file) l.codes l.images))
+unfoldable pub onwards : FileRead → ℕ → Lists → Outcome
+onwards r flags l =
+    cond (ltb 7 flags) (seen (Err (F.Unordered R.Misshapen r)) l)
+    (after_renumbering r l (renumbering r flags l.file.gates (taken_of l.file) l.codes l.images))
 
 -- what reading answered: the file's own refusal is the answer
-abbrev pub after_answer_of : FileAnswer → FileRead → ℕ → Lists → Outcome
-after_answer_of (F.Refused why place) r flags l = seen (saying (Unread why place) r 0) l
-after_answer_of (F.Taken used) r flags l = onwards used r flags l
+abbrev pub after_answer_of : Result FileRead Broken → ℕ → Lists → Outcome
+after_answer_of (Err e) flags l = seen (Err (F.Unread e)) l
+after_answer_of (Ok r) flags l = onwards r flags l
 
 abbrev pub after_reading : B.Outcome → ℕ → Lists → Outcome
-after_reading r flags l = after_answer_of r.read.answer r.read flags (lists r.lists l.codes l.images l.bytes)
+after_reading r flags l = after_answer_of r.read flags (lists r.lists l.codes l.images l.bytes)
 
 -- the whole: what ordering the file in these bytes answers, and what all that is lent is afterwards
 unfoldable pub ordering : List ℕ → ℕ → Lists → Outcome

@@ -5,45 +5,52 @@ ghost use Rattle.std.specs.Prelude.{◌≡◌, ◌*◌, ◌≤◌, length, take}
 ghost use Rattle.circuit.specs.Outcome.{limit, total, left, outcome};
 ghost use Rattle.binary.specs.Way.{top_of};
 ghost use Rattle.binary.specs.Write.{wrote, writing};
-ghost use Rattle.intake.specs.Order.{Held, Coded, Filled, record_of, handed, leaving, renumbering, seen, onwards, ordering};
+ghost use Rattle.intake.specs.declared.OrderFault.TheVariants.{Unread};
+ghost use Rattle.intake.specs.Order.{refusal_of, Held, Coded, Filled, record_of, handed, leaving, renumbering, seen, onwards, ordering};
 
-use binary::{FileAnswer, FileRead, FileWritten};
+use binary::{FileRead, Unwritten};
 use checks::sum;
-use circuit::{Answer, CircuitRecord, Refusal};
+use circuit::{CircuitLists, CircuitRecord, CircuitRoom, Refusal, Summary};
 use lent::words::{counted, wide};
-use lines::Fault;
+use lines::Broken;
 use lit::Var;
-use ordered::Expansion;
+use ordered::Unexpanded;
 use ordered::given::Shape;
 
-// How the call ends: the bytes that the file took and those that were written; or the file's own refusal, with its place; or renumbering's; or that of
-// writing and, where the lent bytes are too few, how many are needed.
+// A file that is ordered: the numbers of the file that was read, the gates made, and the bytes written.
 #[derive(Clone, Copy)]
-pub enum OrderAnswer {
-    Ordered {
-        used: usize,
-        written: usize,
+pub struct Ordered {
+    pub read: FileRead,
+    pub made: u32,
+    pub written: usize,
+}
+
+// Why no file is written: the file's own refusal, with its place; or renumbering's, of the file that was read; or that of writing so many gates made, with how
+// many bytes are needed where the lent ones are too few.
+#[derive(Clone, Copy)]
+pub enum OrderFault {
+    Unread(Broken),
+    Unordered {
+        why: Refusal,
+        read: FileRead,
     },
-    Unread {
-        why: Fault,
-        place: usize,
-    },
-    Unordered(Refusal),
     Unstored {
-        why: ordered::given::Fault,
-        needed: usize,
+        why: Unwritten,
+        read: FileRead,
+        made: u32,
     },
 }
 
-// The answer, the numbers of the file that was read (all 0 where it is refused), and the number of gates made (0 where none was).
-#[derive(Clone, Copy)]
-pub struct Ordering {
-    pub answer: OrderAnswer,
-    pub read: FileRead,
-    pub made: u32,
+impl From<Broken> for OrderFault {
+    ghost from_gives = { λ why fault. fault ≡ Unread why };
+
+    fn from(why: Broken) -> OrderFault {
+        OrderFault::Unread(why)
+    }
 }
 
 // The circuit but for its lists. The flags are trim 1, hash 2, fold 4.
+#[tactic(auto, unfolding(lit::specs::Code::is_odd))]
 fn record_of(read: FileRead, flags: u32) -> CircuitRecord
     requires { top_of read ≤ limit }
     ensures { result ≡ record_of read flags }
@@ -74,7 +81,7 @@ fn numbered(
     root_images: &mut [u32],
     gates_out: &mut [u32],
     scratch: &mut [u32],
-) -> Answer
+) -> Result<Summary, Refusal>
     requires { (Held read (record { nexts = nexts.now; resets = resets.now; roots = roots.now }))
         × (Coded read (record { inputs = input_codes.now; states = state_codes.now; triples = triples.now })) }
     ensures { left (record {
@@ -107,21 +114,34 @@ fn numbered(
     let l = wide(read.latches);
     let g = counted(read.gates);
     let r = sum(counts);
-    aig::renumber(
-        record_of(read, flags),
-        &input_codes[..i],
-        &state_codes[..l],
-        &nexts[..l],
-        &resets[..l],
-        &triples[..3 * g],
-        &roots[..r],
+    let lists = CircuitLists {
+        inputs: &input_codes[..i],
+        states: &state_codes[..l],
+        nexts: &nexts[..l],
+        resets: &resets[..l],
+        gates: &triples[..3 * g],
+        roots: &roots[..r],
+    };
+    let room = CircuitRoom {
         map,
         next_images,
         reset_images,
         root_images,
         gates_out,
         scratch,
-    )
+    };
+    aig::renumber(record_of(read, flags), &lists, room)
+}
+
+// What is not expanded is refused by the reason of that name.
+fn refusal_of(why: Unexpanded) -> Refusal
+    ensures { result ≡ refusal_of why }
+{
+    match why {
+        Unexpanded::TooBig => Refusal::TooBig,
+        Unexpanded::Misshapen => Refusal::Misshapen,
+        Unexpanded::Short => Refusal::Short,
+    }
 }
 
 // Expands the gates that were read, and renumbers the circuit.
@@ -141,7 +161,7 @@ fn renumbered(
     root_images: &mut [u32],
     gates_out: &mut [u32],
     scratch: &mut [u32],
-) -> Answer
+) -> Result<Summary, Refusal>
     requires { (Held read (record { nexts = nexts.now; resets = resets.now; roots = roots.now })) × (2 * read.gates ≤ length gates.now) }
     ensures { leaving (record {
       inputs = input_codes.new;
@@ -173,35 +193,31 @@ fn renumbered(
     }) }
 {
     let g = counted(read.gates);
-    let said = ordered::expand(
+    ordered::expand(
         wide(read.inputs),
         wide(read.latches),
         &gates[..2 * g],
         input_codes,
         state_codes,
         triples,
-    );
-    match said {
-        Expansion::Expanded => numbered(
-            read,
-            flags,
-            nexts,
-            resets,
-            roots,
-            input_codes,
-            state_codes,
-            triples,
-            map,
-            next_images,
-            reset_images,
-            root_images,
-            gates_out,
-            scratch,
-        ),
-        Expansion::TooBig => Answer::Refused(Refusal::TooBig),
-        Expansion::Misshapen => Answer::Refused(Refusal::Misshapen),
-        Expansion::Short => Answer::Refused(Refusal::Short),
-    }
+    )
+    .map_err(refusal_of)?;
+    numbered(
+        read,
+        flags,
+        nexts,
+        resets,
+        roots,
+        input_codes,
+        state_codes,
+        triples,
+        map,
+        next_images,
+        reset_images,
+        root_images,
+        gates_out,
+        scratch,
+    )
 }
 
 // Writes what was made, so many gates, with the file's justice sizes.
@@ -214,7 +230,7 @@ fn stored(
     root_images: &[u32],
     gates_out: &[u32],
     out: &mut [u8],
-) -> FileWritten
+) -> Result<usize, Unwritten>
     requires { Filled read made sizes.now next_images.now reset_images.now root_images.now gates_out.now }
     ensures { wrote result out.new ≡ writing (record {
       inputs = read.inputs;
@@ -245,7 +261,6 @@ fn stored(
 
 // A file that was taken: flags over 7 are refused by 2; else it is renumbered, and what was made is written.
 fn onward(
-    used: usize,
     read: FileRead,
     flags: u32,
     nexts: &[u32],
@@ -263,7 +278,7 @@ fn onward(
     gates_out: &mut [u32],
     scratch: &mut [u32],
     out: &mut [u8],
-) -> Ordering
+) -> Result<Ordered, OrderFault>
     requires { (Held read (record { nexts = nexts.now; resets = resets.now; roots = roots.now })) × (2 * read.gates ≤ length gates.now)
         × (read.sets ≤ length sizes.now) }
     ensures { seen result (record {
@@ -288,7 +303,7 @@ fn onward(
         scratch = scratch.new;
       };
       bytes = out.new;
-    }) ≡ onwards used read flags (record {
+    }) ≡ onwards read flags (record {
       file = record {
         nexts = nexts.now;
         resets = resets.now;
@@ -313,13 +328,12 @@ fn onward(
     }) }
 {
     if 7 < flags {
-        return Ordering {
-            answer: OrderAnswer::Unordered(Refusal::Misshapen),
+        return Err(OrderFault::Unordered {
+            why: Refusal::Misshapen,
             read,
-            made: 0,
-        };
+        });
     }
-    let said = renumbered(
+    let summary = renumbered(
         read,
         flags,
         nexts,
@@ -335,39 +349,25 @@ fn onward(
         root_images,
         gates_out,
         scratch,
-    );
-    match said {
-        Answer::Renumbered(summary) => {
-            let made = summary.made;
-            let end = stored(
-                read,
-                made,
-                sizes,
-                next_images,
-                reset_images,
-                root_images,
-                gates_out,
-                out,
-            );
-            match end {
-                FileWritten::Written(written) => Ordering {
-                    answer: OrderAnswer::Ordered { used, written },
-                    read,
-                    made,
-                },
-                FileWritten::Unwritten { why, needed } => Ordering {
-                    answer: OrderAnswer::Unstored { why, needed },
-                    read,
-                    made,
-                },
-            }
-        }
-        Answer::Refused(why) => Ordering {
-            answer: OrderAnswer::Unordered(why),
-            read,
-            made: 0,
-        },
-    }
+    )
+    .map_err(|why| OrderFault::Unordered { why, read })?;
+    let made = summary.made;
+    let written = stored(
+        read,
+        made,
+        sizes,
+        next_images,
+        reset_images,
+        root_images,
+        gates_out,
+        out,
+    )
+    .map_err(|why| OrderFault::Unstored { why, read, made })?;
+    Ok(Ordered {
+        read,
+        made,
+        written,
+    })
 }
 
 // Reads a binary file, renumbers its circuit with the flags (trim 1, hash 2, fold 4) and writes the ordered file. The file's own refusals come first, with their
@@ -391,7 +391,7 @@ pub fn order(
     gates_out: &mut [u32],
     scratch: &mut [u32],
     out: &mut [u8],
-) -> Ordering
+) -> Result<Ordered, OrderFault>
     ensures { seen result (record {
       file = record {
         nexts = nexts.new;
@@ -438,33 +438,24 @@ pub fn order(
       bytes = out.old;
     }) }
 {
-    let read = binary::read(bytes, nexts, resets, gates, sizes, roots);
-    let said = read.answer;
-    match said {
-        FileAnswer::Taken(used) => onward(
-            used,
-            read,
-            flags,
-            nexts,
-            resets,
-            gates,
-            sizes,
-            roots,
-            input_codes,
-            state_codes,
-            triples,
-            map,
-            next_images,
-            reset_images,
-            root_images,
-            gates_out,
-            scratch,
-            out,
-        ),
-        FileAnswer::Refused { why, place } => Ordering {
-            answer: OrderAnswer::Unread { why, place },
-            read,
-            made: 0,
-        },
-    }
+    let read = binary::read(bytes, nexts, resets, gates, sizes, roots)?;
+    onward(
+        read,
+        flags,
+        nexts,
+        resets,
+        gates,
+        sizes,
+        roots,
+        input_codes,
+        state_codes,
+        triples,
+        map,
+        next_images,
+        reset_images,
+        root_images,
+        gates_out,
+        scratch,
+        out,
+    )
 }

@@ -4,32 +4,33 @@ use Prim.Native.Nat.{ℕ}
 use mathlib.Core.Path.{◌≡◌, refl}
 use mathlib.Core.List.{List, [], ◌∷◌, ◌++◌}
 use lib.ListN.{replicate}
+use Rattle.std.specs.Prelude.{Ok, Err}
 use Rattle.lit.specs.Code.{is_odd, literal, flipped}
 use Rattle.token.specs.Format.{digits_of, shortest}
 use Rattle.token.specs.Answer.{digits_at, uint_at, go_on_at, binary_at, delta_at, header_field_at, pair_at}
+use Rattle.circuit.specs.declared.Refusal.{Refusal}
 use Rattle.circuit.specs.declared.Refusal.TheVariants as R
 use Rattle.circuit.specs.Map.{entry_image, image_in, store, code_of}
 use Rattle.circuit.specs.Walk.{first_code, next_code, folded, already, settle_as, settle_on, settle, look, through_inputs, walk, walk_all}
 use Rattle.circuit.specs.Circuit.{codes, start, walked, numbered, renumber}
 use Rattle.circuit.specs.Ordered.{images_in, ordered_of}
 use Rattle.circuit.specs.Outcome.{too_big, misshapen, too_short, conclusion, after, outcome}
+use Rattle.lines.specs.declared.Fault as L
 use Rattle.lines.specs.declared.Fault.TheVariants as F
 use Rattle.lines.specs.Lines.{is_byte, byte_at, tag_at, number_at, line_at, lines_at, reset_line_at, reset_at, latch_at, latches_at}
 use Rattle.lines.specs.Sections.{count_at, others_at, counts_at, header_at, root_room_at, properties_at, sizes_at, roots_at}
 use Rattle.sections.specs.Bytes.{line_bytes, count_bytes, reset_bytes, latch_bytes, after_tag, roots_bytes}
+use Rattle.ordered.specs.declared.given.Fault as G
 use Rattle.ordered.specs.declared.given.Fault.TheVariants as O
 use Rattle.ordered.specs.Check.{too_large, uneven, checked}
 use Rattle.ordered.specs.Expand as expand
 use Rattle.ordered.specs.Expand.{expansion}
-use Rattle.binary.specs.declared.FileAnswer.TheVariants.{Taken}
 use Rattle.binary.specs.declared.FileRead.{FileRead}
 use Rattle.binary.specs.File.{gate_at, gates_at, sized_at, lists_at, body_at, read_file}
 use Rattle.binary.specs.Promise as file
 use Rattle.binary.specs.Write.{parts_of, writing}
-use Rattle.intake.specs.declared.OrderAnswer.{OrderAnswer}
-use Rattle.intake.specs.declared.OrderAnswer.TheVariants.{Ordered, Unread, Unordered, Unstored}
-use Rattle.intake.specs.declared.Ordering.{Ordering}
-use Rattle.intake.specs.Order.{Images, Lists, renumbering, onwards, ordering}
+use Rattle.intake.specs.declared.OrderFault.TheVariants.{Unread, Unordered, Unstored}
+use Rattle.intake.specs.Order.{Ordering, Images, Lists, renumbering, onwards, ordering}
 use Rattle.intake_words.specs.Order.{OrderSeen, order_number, refuser, byte_count, order_words, order_seen, ordering_seen}
 
 -- what C sees: the number, what was lent, the answer words
@@ -42,21 +43,30 @@ order_seen_pinned lists = refl
 
 -- 1. Each answer as a number and words.
 
--- an answer beside the numbers of a file that was taken and the gates made, all of them different
+-- each way to end, beside the numbers of a file that was taken and the gates made, all of them different
 abbrev read : FileRead
-read = record { answer = Taken 99; inputs = 2; latches = 30; gates = 400; counts = 5 ∷ 6 ∷ 7 ∷ 8 ∷ 9 ∷ []; sets = 10 }
+read = record { used = 99; inputs = 2; latches = 30; gates = 400; counts = 5 ∷ 6 ∷ 7 ∷ 8 ∷ 9 ∷ []; sets = 10 }
 
-abbrev said : OrderAnswer → Ordering
-said answer = record { answer = answer; read = read; made = 11 }
+abbrev ordered : ℕ → Ordering
+ordered written = Ok (record { read = read; made = 11; written = written })
+
+abbrev unread : L.Fault → ℕ → Ordering
+unread why place = Err (Unread (record { why = why; place = place }))
+
+abbrev unordered : Refusal → Ordering
+unordered why = Err (Unordered why read)
+
+abbrev unstored : G.Fault → ℕ → Ordering
+unstored why needed = Err (Unstored (record { why = why; needed = needed }) read 11)
 
 pub order_answers_pinned :
-    (order_number (Ordered 99 88) ≡ 0) × (order_number (Unread F.Above 14) ≡ 19) × (order_number (Unordered R.Misshapen) ≡ 2)
-    × (order_number (Unordered (R.Cycle (literal 30))) ≡ 8) × (order_number (Unstored (O.Disordered (literal 30)) 0) ≡ 23) × (order_number (Unstored O.Short 77) ≡ 3)
-    × (byte_count (Ordered 99 88) ≡ 88) × (byte_count (Unread F.Above 14) ≡ 0) × (byte_count (Unordered R.Short) ≡ 0) × (byte_count (Unstored O.Short 77) ≡ 77)
-    × (refuser (Ordered 99 88) ≡ 0) × (refuser (Unread F.Short 14) ≡ 1) × (refuser (Unordered R.Short) ≡ 2) × (refuser (Unstored O.Short 77) ≡ 3)
+    (order_number (ordered 88) ≡ 0) × (order_number (unread F.Above 14) ≡ 19) × (order_number (unordered R.Misshapen) ≡ 2)
+    × (order_number (unordered (R.Cycle (literal 30))) ≡ 8) × (order_number (unstored (O.Disordered (literal 30)) 0) ≡ 23) × (order_number (unstored O.Short 77) ≡ 3)
+    × (byte_count (ordered 88) ≡ 88) × (byte_count (unread F.Above 14) ≡ 0) × (byte_count (unordered R.Short) ≡ 0) × (byte_count (unstored O.Short 77) ≡ 77)
+    × (refuser (ordered 88) ≡ 0) × (refuser (unread F.Short 14) ≡ 1) × (refuser (unordered R.Short) ≡ 2) × (refuser (unstored O.Short 77) ≡ 3)
     -- which word is which; M is the sum of three
-    × (order_words (said (Ordered 99 88)) ≡ 99 ∷ 432 ∷ 2 ∷ 30 ∷ 400 ∷ 5 ∷ 6 ∷ 7 ∷ 8 ∷ 9 ∷ 10 ∷ 11 ∷ 88 ∷ 0 ∷ [])
-    × (order_words (said (Unstored O.Short 77)) ≡ 99 ∷ 432 ∷ 2 ∷ 30 ∷ 400 ∷ 5 ∷ 6 ∷ 7 ∷ 8 ∷ 9 ∷ 10 ∷ 11 ∷ 77 ∷ 3 ∷ [])
+    × (order_words (ordered 88) ≡ 99 ∷ 432 ∷ 2 ∷ 30 ∷ 400 ∷ 5 ∷ 6 ∷ 7 ∷ 8 ∷ 9 ∷ 10 ∷ 11 ∷ 88 ∷ 0 ∷ [])
+    × (order_words (unstored O.Short 77) ≡ 99 ∷ 432 ∷ 2 ∷ 30 ∷ 400 ∷ 5 ∷ 6 ∷ 7 ∷ 8 ∷ 9 ∷ 10 ∷ 11 ∷ 77 ∷ 3 ∷ [])
 order_answers_pinned = (refl, refl, refl, refl, refl, refl, refl, refl, refl, refl, refl, refl, refl, refl, refl, refl)
 
 -- 2. The half adder: aig 5 2 0 2 3, outputs 10 and 6, gates 6(4,2), 8(5,3), 10(9,7); 25 bytes.

@@ -6,6 +6,7 @@ use mathlib.Core.Bool.{Bool, cond}
 use mathlib.Core.List.{List}
 use native.Mathlib.Omega.{arith}
 use lib.ListN.{length}
+use Rattle.std.specs.Prelude.{Ok, Err}
 use borrow.Author.Tests.{le-ltb}
 use Rattle.token.specs.Format.{Bytes}
 use Rattle.token.specs.Answer.{reason_number}
@@ -20,9 +21,8 @@ use Rattle.lines.specs.Numbers as reading
 use Rattle.ordered.specs.declared.given.Fault as G
 use Rattle.ordered.specs.declared.given.Fault.TheVariants as W
 use Rattle.ordered.specs.Check as writing
-use Rattle.intake.specs.declared.OrderAnswer.{OrderAnswer}
-use Rattle.intake.specs.declared.OrderAnswer.TheVariants.{Ordered, Unread, Unordered, Unstored}
-use Rattle.intake.specs.Order.{Lists, ordering}
+use Rattle.intake.specs.declared.OrderFault.TheVariants.{Unread, Unordered, Unstored}
+use Rattle.intake.specs.Order.{Ordering, Ordered, answer_of, Lists, ordering}
 use Rattle.intake.specs.Intake.{Orderable}
 use Rattle.intake.proofs.Intake.{exactly_when}
 use Rattle.intake_words.specs.Order.{order_number, as_order_seen, ordering_seen}
@@ -68,22 +68,29 @@ writing_some (W.Disordered d) = omega arith
 writing_some W.Short = omega arith
 
 -- so 0 is the number of a success alone
-ordered_zero : (a : OrderAnswer) → order_number a ≡ 0 → (used : ℕ) × (written : ℕ) × (a ≡ Ordered used written)
-ordered_zero (Ordered used written) e = (used, written, refl)
-ordered_zero (Unread why place) e = absurd (omega (arith, file_some why))
-ordered_zero (Unordered why) e = absurd (omega (arith, refusal_some why))
-ordered_zero (Unstored why needed) e = absurd (omega (arith, writing_some why))
+ordered_zero : (a : Ordering) → order_number a ≡ 0 → (used : ℕ) × (written : ℕ) × (answer_of a ≡ Ordered used written)
+ordered_zero (Ok o) e = (o.read.used, o.written, refl)
+ordered_zero (Err (Unread b)) e = absurd (omega (arith, file_some b.why))
+ordered_zero (Err (Unordered why read)) e = absurd (omega (arith, refusal_some why))
+ordered_zero (Err (Unstored u read made)) e = absurd (omega (arith, writing_some u.why))
+
+-- and that of each
+zero_ordered : (a : Ordering) (used written : ℕ) → answer_of a ≡ Ordered used written → order_number a ≡ 0
+zero_ordered (Ok o) used written e = refl
+zero_ordered (Err (Unread b)) used written e = absurd (let z : ◌≡◌ {A = ℕ} 0 1 = cc in omega arith)
+zero_ordered (Err (Unordered why read)) used written e = absurd (let z : ◌≡◌ {A = ℕ} 0 1 = cc in omega arith)
+zero_ordered (Err (Unstored u read made)) used written e = absurd (let z : ◌≡◌ {A = ℕ} 0 1 = cc in omega arith)
 
 -- 0 is answered exactly where intake succeeds
 pub zero_exactly : (bytes : List ℕ) (flags : ℕ) (l : Lists) (words : List ℕ) → Bytes bytes → 14 ≤ length words
     → ((ordering_seen bytes flags l words).number ≡ 0) ↔ Orderable bytes flags l
 unfolding ordering_seen
 zero_exactly bytes flags l words are room = (
-  λ e. (exactly_when bytes flags l are).0 (ordered_zero (ordering bytes flags l).said.answer (sym its ∙ e)),
-  λ k. let s = (exactly_when bytes flags l are).1 k in its ∙ ap order_number s.2,
+  λ e. (exactly_when bytes flags l are).0 (ordered_zero (ordering bytes flags l).said (sym its ∙ e)),
+  λ k. let s = (exactly_when bytes flags l are).1 k in its ∙ zero_ordered (ordering bytes flags l).said s.0 s.1 s.2,
 )
   where
-    its : (ordering_seen bytes flags l words).number ≡ order_number (ordering bytes flags l).said.answer
+    its : (ordering_seen bytes flags l words).number ≡ order_number (ordering bytes flags l).said
     its =
         ap (λ (b : Bool). (cond b (record { number = 3; lists = l; words = words }) (as_order_seen (ordering bytes flags l) words)).number)
         (le-ltb (length words) 14 room)

@@ -1,15 +1,16 @@
 // Intake as one call with numbers for its answer: a number and fourteen words, as C has them.
 #![tactic(auto)]
 
-ghost use Rattle.std.specs.Prelude.{◌≡◌, [], ◌∷◌, ◌≤◌, ltb, length};
-ghost use Rattle.std.proofs.lemmas.List.Edits.{sets};
+ghost use Rattle.std.specs.Prelude.{◌≡◌, ◌≤◌, ltb, length};
 ghost use Rattle.circuit.specs.Outcome.{onto};
-ghost use Rattle.lent.specs.Counted.{Counted};
-ghost use Rattle.file_words.specs.Read.{first_word, top_of, answer_words};
-ghost use Rattle.intake_words.specs.Order.{order_number, refuser, byte_count, order_words, order_seen, ordering_seen};
+ghost use Rattle.binary.specs.Promise.{numbers};
+ghost use Rattle.file_words.specs.Read.{top_of, answer_words};
+ghost use Rattle.intake_words.specs.Order.{order_number, refuser, made_count, byte_count, file_of, order_words, order_seen, ordering_seen};
 
-use binary::{FileAnswer, FileRead};
-use intake::{OrderAnswer, Ordering};
+use binary::FileRead;
+use file_words::{top_of, words_of};
+use intake::{OrderFault, Ordered};
+use lines::Broken;
 
 // Whether there are too few words for the answer.
 fn is_short(answer: &[u64]) -> bool
@@ -18,126 +19,83 @@ fn is_short(answer: &[u64]) -> bool
     answer.len() < 14
 }
 
-// A count as a word; three of them can't overflow a sum.
-fn word(count: u32) -> u64
-    ensures { Counted count result }
-{
-    count as u64
-}
-
 // 0 for a file that is ordered, else the refusal's number.
-fn number(said: OrderAnswer) -> u32
+fn number(said: Result<Ordered, OrderFault>) -> u32
     ensures { result ≡ order_number said }
 {
     match said {
-        OrderAnswer::Ordered {
-            used: _,
-            written: _,
-        } => 0,
-        OrderAnswer::Unread { why, place: _ } => lines::fault_number(why),
-        OrderAnswer::Unordered(why) => refusals::number(why),
-        OrderAnswer::Unstored { why, needed: _ } => ordered::given::fault_number(why),
+        Ok(_) => 0,
+        Err(OrderFault::Unread(file)) => u32::from(file.why),
+        Err(OrderFault::Unordered { why, .. }) => refusals::number(why),
+        Err(OrderFault::Unstored { why, .. }) => u32::from(why.why),
     }
 }
 
 // Who refused: 0 nobody, 1 the file, 2 renumbering, 3 writing.
-fn who_refused(said: OrderAnswer) -> u64
+fn who_refused(said: Result<Ordered, OrderFault>) -> u64
     ensures { result ≡ refuser said }
 {
     match said {
-        OrderAnswer::Ordered {
-            used: _,
-            written: _,
-        } => 0,
-        OrderAnswer::Unread { why: _, place: _ } => 1,
-        OrderAnswer::Unordered(_why) => 2,
-        OrderAnswer::Unstored { why: _, needed: _ } => 3,
+        Ok(_) => 0,
+        Err(OrderFault::Unread(_)) => 1,
+        Err(OrderFault::Unordered { .. }) => 2,
+        Err(OrderFault::Unstored { .. }) => 3,
+    }
+}
+
+// The gates made; 0 where none was.
+fn made_count(said: Result<Ordered, OrderFault>) -> u64
+    ensures { result ≡ made_count said }
+{
+    match said {
+        Ok(file) => file.made as u64,
+        Err(OrderFault::Unstored { made, .. }) => made as u64,
+        Err(_) => 0,
     }
 }
 
 // The bytes written, or those needed where the lent ones are too few; else 0.
-fn byte_count(said: OrderAnswer) -> u64
+fn byte_count(said: Result<Ordered, OrderFault>) -> u64
     ensures { result ≡ byte_count said }
 {
     match said {
-        OrderAnswer::Ordered { used: _, written } => written as u64,
-        OrderAnswer::Unread { why: _, place: _ } => 0,
-        OrderAnswer::Unordered(_why) => 0,
-        OrderAnswer::Unstored { why: _, needed } => needed as u64,
+        Ok(file) => file.written as u64,
+        Err(OrderFault::Unstored { why, .. }) => why.needed as u64,
+        Err(_) => 0,
     }
 }
 
-// The bytes that the file took, or the place where it is refused.
-fn first_word(said: FileAnswer) -> u64
-    ensures { result ≡ first_word said }
+// The file that was read, or its own refusal.
+fn file_of(said: Result<Ordered, OrderFault>) -> Result<FileRead, Broken>
+    ensures same { result ≡ file_of said }
+    ensures five { length (numbers result).counts ≡ 5 }
 {
     match said {
-        FileAnswer::Taken(used) => used as u64,
-        FileAnswer::Refused { why: _, place } => place as u64,
+        Ok(file) => Ok(file.read),
+        Err(OrderFault::Unread(why)) => Err(why),
+        Err(OrderFault::Unordered { read, .. }) => Ok(read),
+        Err(OrderFault::Unstored { read, .. }) => Ok(read),
     }
-}
-
-// M of what was read: I + L + A.
-fn top_of(read: FileRead) -> u64
-    ensures { result ≡ top_of read }
-{
-    word(read.inputs) + word(read.latches) + word(read.gates)
 }
 
 // The eleven words of the file that was read in the first lent ones.
-fn put_file(read: FileRead, answer: &mut [u64])
+fn put_file(file: Result<FileRead, Broken>, answer: &mut [u64])
     requires { 11 ≤ length answer.old }
-    ensures { answer.new ≡ onto (answer_words (top_of read) read) answer.old }
+    ensures { answer.new ≡ onto (answer_words (top_of file) file) answer.old }
 {
-    let what = read.answer;
-    let counts = read.counts;
-    let first = first_word(what);
-    let top = top_of(read);
-    let inputs = word(read.inputs);
-    let latches = word(read.latches);
-    let gates = word(read.gates);
-    let outputs = word(counts[0]);
-    let bad = word(counts[1]);
-    let constraints = word(counts[2]);
-    let fairness = word(counts[3]);
-    let justice = word(counts[4]);
-    let sets = word(read.sets);
-    answer[0] = first;
-    answer[1] = top;
-    answer[2] = inputs;
-    answer[3] = latches;
-    answer[4] = gates;
-    answer[5] = outputs;
-    answer[6] = bad;
-    answer[7] = constraints;
-    answer[8] = fairness;
-    answer[9] = justice;
-    answer[10] = sets;
+    answer[..11].copy_from_slice(&words_of(file, top_of(file)));
 }
 
-// The gates made, the bytes and who refused in the three words after those.
-fn put_end(made: u64, bytes: u64, who: u64, answer: &mut [u64])
+// The answer's fourteen words in the first lent ones: the eleven of the file that was read; then the gates made, the bytes and who refused.
+fn put_order(said: Result<Ordered, OrderFault>, answer: &mut [u64])
     requires { 14 ≤ length answer.old }
-    ensures { answer.new ≡ sets answer.old 11 (made ∷ bytes ∷ who ∷ []) }
+    ensures { answer.new ≡ onto (order_words said) answer.old }
 {
-    answer[11] = made;
-    answer[12] = bytes;
-    answer[13] = who;
-}
-
-// The answer's number, and its fourteen words in the first lent ones.
-fn put_order(said: Ordering, answer: &mut [u64]) -> u32
-    requires { 14 ≤ length answer.old }
-    ensures { (result ≡ order_number said.answer) × (answer.new ≡ onto (order_words said) answer.old) }
-{
-    let what = said.answer;
-    let read = said.read;
-    put_file(read, answer);
-    let made = word(said.made);
-    let bytes = byte_count(what);
-    let who = who_refused(what);
-    put_end(made, bytes, who, answer);
-    number(what)
+    let file = file_of(said);
+    put_file(file, answer);
+    answer[11] = made_count(said);
+    answer[12] = byte_count(said);
+    answer[13] = who_refused(said);
 }
 
 // Reads a binary AIGER file, renumbers its circuit and writes the ordered file, as `intake::order` does: 0, or a refusal's number. The answer goes to the first
@@ -237,5 +195,6 @@ pub fn order(
         scratch,
         out,
     );
-    put_order(said, answer)
+    put_order(said, answer);
+    number(said)
 }

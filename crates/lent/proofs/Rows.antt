@@ -1,11 +1,13 @@
 -- Laws of lists as loops write and read them, a cell a turn. The cells are numbers, so each law serves bytes and words alike. Assumes nothing.
-use Prim.Native.Nat.{ℕ, zero, suc, ◌+◌, ◌<◌, ◌≤◌}
+use Prim.Native.Nat.{ℕ, zero, suc, ◌+◌, ◌<◌, ◌≤◌, min}
 use mathlib.Core.Path.{◌≡◌, refl, ap}
 use mathlib.Core.List.{List, [], ◌∷◌, ◌++◌}
 use native.Mathlib.Numerals.{add-one}
 use native.Mathlib.Omega.{arith}
+use Rattle.std.proofs.Math.Nat.{min_comm}
+use Rattle.std.proofs.lemmas.List.{take_min, drop_min}
 use lib.ListN.{length, get_or, set, take, drop, drop_of_length-le}
-use lib.Seq.{drop-cons, drop-length, take_all}
+use lib.Seq.{drop-cons}
 use Rattle.circuit.specs.Outcome.{onto}
 
 -- within the list the default does not matter
@@ -24,16 +26,9 @@ onto_more ys o i x h k e = rw (e, add-one i) (go ys o i h k)
     go (y ∷ ys) (x ∷ o) zero h k = refl
     go (y ∷ ys) (x ∷ o) (suc i) h k = ap {B = List ℕ} (λ l. y ∷ l) (go ys o i (omega arith) (omega arith))
 
--- all of them, or up to the list's end
-pub onto_all : (ys o : List ℕ) (i : ℕ) → i ≤ length ys → length ys ≤ i → i ≤ length o → take i ys ++ drop i o ≡ onto ys o
-onto_all ys o i h k l =
-    let e : i ≡ length ys = omega arith in
-    rw (take_all i ys k, take_all (length o) ys (omega arith), e)
-
-pub onto_full : (ys o : List ℕ) (i : ℕ) → i ≤ length ys → i ≤ length o → length o ≤ i → take i ys ++ drop i o ≡ onto ys o
-onto_full ys o i h k l =
-    let e : i ≡ length o = omega arith in
-    rw (e, drop_of_length-le o {i = length ys} (omega arith), drop-length o)
+-- as many of them as there are words for
+pub onto_front : (ys o : List ℕ) (i : ℕ) → i ≡ min (length ys) (length o) → take i ys ++ drop i o ≡ onto ys o
+onto_front ys o i e = rw (e, drop_min (length ys) o, min_comm (length ys) (length o), take_min (length o) ys)
 
 -- what is left of a list at a place is its element and what is left after it
 pub drop_at_one : {A : Type 0} (l : List A) (i : ℕ) (d : A) → i < length l → drop i l ≡ get_or l i d ∷ drop (i + 1) l

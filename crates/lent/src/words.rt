@@ -14,7 +14,8 @@ pub fn wide(x: u32) -> usize
     x as usize
 }
 
-// The same, known to be a word's: a few of them can't overflow a sum.
+// The same, known to be a word's: a few of them can't overflow a sum. Beside `wide` and not in its place: one function with both facts would be no
+// plainer, since each answer that cites `wide` would have to name its part.
 pub fn counted(word: u32) -> usize
     ensures { Counted word result }
 {
@@ -32,10 +33,7 @@ pub fn place_of(lit: Lit) -> usize
 pub fn is_reset(own: u32, reset: u32) -> bool
     ensures { result ≡ is_reset own reset }
 {
-    if reset <= 1 {
-        return true;
-    }
-    reset == own
+    reset <= 1 || reset == own
 }
 
 // One word in a cell, if the cell is there.
@@ -51,20 +49,13 @@ pub fn store(list: &mut [u32], at: usize, word: u32)
 pub fn fill_front(words: &mut [u32], count: usize, value: u32)
     ensures { words.new ≡ onto (replicate count value) words.old }
 {
-    let mut i = 0;
-    while i < count {
-        if words.len() <= i {
-            return;
-        }
-        words[i] = value;
-        i += 1;
-    }
+    let front = count.min(words.len());
+    words[..front].fill(value);
 }
 
 // Puts the value into every word.
 pub fn fill(words: &mut [u32], value: u32)
     ensures { words.new ≡ replicate (length words.old) value }
 {
-    let count = words.len();
-    fill_front(words, count, value);
+    words.fill(value);
 }

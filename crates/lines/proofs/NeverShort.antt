@@ -1,6 +1,7 @@
 -- Refusal 3 comes of the tests of the lists alone: no byte, number, line or header is refused by it, and the root section is not where its root list has
 -- as many cells as there may be roots. Assumes nothing.
 use Prim.Native.Nat.{ℕ, zero, suc, ◌+◌, ◌-◌, ◌*◌, ◌≤◌}
+use Rattle.std.specs.Prelude.{Ok, Err}
 use mathlib.Core.Path.{◌≡◌, refl, ap}
 use mathlib.Core.Bool.{Bool, true, false, cond}
 use mathlib.Core.List.{List, [], ◌∷◌, ◌++◌}
@@ -8,9 +9,7 @@ use native.Mathlib.Omega.{arith}
 use lib.Dec.{ltb}
 use lib.ListN.{length}
 use borrow.Author.Tests.{le-ltb, ltb-false}
-use Rattle.token.specs.Answer.{header_field_at}
-use Rattle.token.specs.declared.Token.{Token}
-use Rattle.token.specs.declared.Token.TheVariants.{Value, Refused}
+use Rattle.token.specs.Answer.{Token, header_field_at}
 use Rattle.circuit.specs.Circuit.{is_reset}
 use Rattle.circuit.specs.Outcome.{limit, total}
 use Rattle.lines.specs.declared.Fault.{Fault}
@@ -54,8 +53,8 @@ never_byte s b at = go (is_byte s b at)
     go false = never_no Missing at (λ w. let z : ◌≡◌ {A = ℕ} 0 1 = cc in omega arith)
 
 pub never_token : (at : ℕ) (t : Token) → Never (number_of at t)
-never_token at (Value v used) = never_got v (at + used)
-never_token at (Refused why p) = never_no (Number why) p (λ w. let z : ◌≡◌ {A = ℕ} 0 1 = cc in omega arith)
+never_token at (Ok t) = never_got t.value (at + t.used)
+never_token at (Err x) = never_no (Number x.why) x.place (λ w. let z : ◌≡◌ {A = ℕ} 0 1 = cc in omega arith)
 
 never_number : (s : List ℕ) (most at : ℕ) → Never (number_at s most at)
 unfolding number_at

@@ -1,28 +1,24 @@
 -- What both forms of an AIGER file are made of, by example: each the smallest on which a neighbouring definition answers otherwise. The bytes are written
 -- above or beside each as text; where they begin with an x, the place asked for is 1. By computation. Assumes nothing.
 use Prim.Native.Nat.{ℕ, zero, suc, ◌+◌}
+use Rattle.std.specs.Prelude.{Result, Ok}
 use mathlib.Core.Path.{◌≡◌, refl}
 use mathlib.Core.Bool.{true, false}
 use mathlib.Core.List.{List, [], ◌∷◌}
 use Rattle.token.specs.Format.{digits_of}
-use Rattle.token.specs.Answer.{digits_at, uint_at, header_field_at}
+use Rattle.token.specs.Answer.{value, refused, digits_at, uint_at, header_field_at}
 use Rattle.token.specs.declared.Reason.TheVariants.{NoDigit, LeadingZero, OverLimit, Cut, TooLong}
-use Rattle.token.specs.declared.Token.TheVariants.{Value, Refused}
 use Rattle.lines.specs.declared.Fault.TheVariants.{Number, Missing, Above, Reset, TooMany, Short}
-use Rattle.lines.specs.declared.Ended.{Ended}
-use Rattle.lines.specs.declared.Ended.TheVariants.{After, Broken}
-use Rattle.lines.specs.declared.Reading.{Reading}
-use Rattle.lines.specs.declared.Reading.TheVariants.{Is, Not}
-use Rattle.lines.specs.declared.LatchRead.TheVariants.{Latch, NoLatch}
-use Rattle.lines.specs.declared.FirstLine.TheVariants.{Counts, NoCounts}
 use Rattle.lines.specs.declared.Header.{Header}
 use Rattle.lines.specs.Numbers.{fault_number}
+use Rattle.lines.specs.declared.Broken.{Broken}
+use Rattle.lines.specs.declared.Reading.{Reading}
 use Rattle.lines.specs.Reading.{Read, got, no, ◌▸◌, row_at}
 use Rattle.lines.specs.Lines.{is_byte, byte_at, space_at, newline_at, begins, tag_of, tag_at, number_of, number_at, line_at, lines_at}
 use Rattle.lines.specs.Lines.{latch_line, nexts_of, resets_of, reset_line_at, reset_at, latch_at, latches_at, word_of}
 use Rattle.lines.specs.Sections.{count_at, options_at, header_of, others_at, counts_at, header_at, top_code}
 use Rattle.lines.specs.Sections.{Roots, roots_of, first_roots, root_count, root_room_at, properties_at, sizes_at, roots_at}
-use Rattle.lines.specs.Promise.{ended, reading, latch_read, first_line, LatchLists, latch_lists, LatchesLeft, latches_seen, latches_left, StoresLatches}
+use Rattle.lines.specs.Promise.{broken, ended, reading, latch_read, first_line, LatchLists, latch_lists, LatchesLeft, latches_seen, latches_left, StoresLatches}
 use Rattle.lines.specs.Promise.{Left, seen, roots_left, Stores, StoresSizes, StoresRoots}
 
 -- 1. Reading forward.
@@ -80,8 +76,8 @@ bytes_pinned = (refl, refl, refl, refl, refl, refl, refl, refl, refl, refl, refl
 
 pub numbers_pinned :
     -- a token with its place
-    (number_of 5 (Value 9 2) ≡ got 9 7)
-    × (number_of 5 (Refused Cut 3) ≡ no (Number Cut) 3)
+    (number_of 5 (value 9 2) ≡ got 9 7)
+    × (number_of 5 (refused Cut 3) ≡ no (Number Cut) 3)
     -- x12y up to 12, and up to 11; no digit; a leading zero
     × (number_at (120 ∷ 49 ∷ 50 ∷ 121 ∷ []) 12 1 ≡ got 12 3)
     × (number_at (120 ∷ 49 ∷ 50 ∷ 121 ∷ []) 11 1 ≡ no (Number OverLimit) 1)
@@ -341,44 +337,44 @@ pub faults_pinned :
 faults_pinned = (refl, refl, refl, refl, refl, refl, refl)
 
 -- an answer and the two lists
-abbrev leaves : Reading → List ℕ → List ℕ → Left
+abbrev leaves : Result Reading Broken → List ℕ → List ℕ → Left
 leaves answer sizes roots = record { answer = answer; lists = record { sizes = sizes; roots = roots } }
 
-abbrev latched : Ended → List ℕ → List ℕ → LatchesLeft
+abbrev latched : Result ℕ Broken → List ℕ → List ℕ → LatchesLeft
 latched answer nexts resets = record { answer = answer; lists = record { nexts = nexts; resets = resets } }
 
 pub answers_pinned :
-    (ended {A = ℕ} (got 5 7) ≡ After 7)
-    × (ended {A = ℕ} (no Above 7) ≡ Broken Above 7)
-    × (reading (got 5 7) ≡ Is 5 7)
-    × (reading (no Above 7) ≡ Not Above 7)
-    × (first_line (got sample 7) ≡ Counts sample 7)
-    × (first_line (no Above 7) ≡ NoCounts Above 7)
-    × (latch_read (got (latch_line 5 6) 7) ≡ Latch 5 6 7)
-    × (latch_read (no Above 7) ≡ NoLatch Above 7)
+    (ended {A = ℕ} (got 5 7) ≡ Ok 7)
+    × (ended {A = ℕ} (no Above 7) ≡ broken Above 7)
+    × (reading (got 5 7) ≡ Ok (record { value = 5; after = 7 }))
+    × (reading (no Above 7) ≡ broken Above 7)
+    × (first_line (got sample 7) ≡ Ok (record { header = sample; after = 7 }))
+    × (first_line (no Above 7) ≡ broken Above 7)
+    × (latch_read (got (latch_line 5 6) 7) ≡ Ok (record { next = 5; reset = 6; after = 7 }))
+    × (latch_read (no Above 7) ≡ broken Above 7)
     -- into longer lists, whose other words stay, and into shorter ones; all 0 where a line is refused
-    × (latches_left (got (latch_line 5 15 ∷ latch_line 6 16 ∷ []) 7) (latch_lists (9 ∷ 8 ∷ 7 ∷ []) (19 ∷ [])) ≡ latched (After 7) (5 ∷ 6 ∷ 7 ∷ []) (15 ∷ []))
-    × (latches_left (got (latch_line 5 15 ∷ latch_line 6 16 ∷ []) 7) (latch_lists (9 ∷ []) (19 ∷ 18 ∷ 17 ∷ [])) ≡ latched (After 7) (5 ∷ []) (15 ∷ 16 ∷ 17 ∷ []))
-    × (latches_left (no Above 2) (latch_lists (9 ∷ 8 ∷ []) (19 ∷ 18 ∷ 17 ∷ [])) ≡ latched (Broken Above 2) (0 ∷ 0 ∷ []) (0 ∷ 0 ∷ 0 ∷ []))
-    × (latches_seen (After 7) (latch_lists (1 ∷ []) (2 ∷ [])) ≡ latched (After 7) (1 ∷ []) (2 ∷ []))
+    × (latches_left (got (latch_line 5 15 ∷ latch_line 6 16 ∷ []) 7) (latch_lists (9 ∷ 8 ∷ 7 ∷ []) (19 ∷ [])) ≡ latched (Ok 7) (5 ∷ 6 ∷ 7 ∷ []) (15 ∷ []))
+    × (latches_left (got (latch_line 5 15 ∷ latch_line 6 16 ∷ []) 7) (latch_lists (9 ∷ []) (19 ∷ 18 ∷ 17 ∷ [])) ≡ latched (Ok 7) (5 ∷ []) (15 ∷ 16 ∷ 17 ∷ []))
+    × (latches_left (no Above 2) (latch_lists (9 ∷ 8 ∷ []) (19 ∷ 18 ∷ 17 ∷ [])) ≡ latched (broken Above 2) (0 ∷ 0 ∷ []) (0 ∷ 0 ∷ 0 ∷ []))
+    × (latches_seen (Ok 7) (latch_lists (1 ∷ []) (2 ∷ [])) ≡ latched (Ok 7) (1 ∷ []) (2 ∷ []))
     × (roots_of (1 ∷ []) (2 ∷ []) ≡ record { sizes = (1 ∷ []); roots = (2 ∷ []) })
-    × (seen (Is 5 7) (roots_of (1 ∷ []) (2 ∷ [])) ≡ leaves (Is 5 7) (1 ∷ []) (2 ∷ []))
+    × (seen (Ok (record { value = 5; after = 7 })) (roots_of (1 ∷ []) (2 ∷ [])) ≡ leaves (Ok (record { value = 5; after = 7 })) (1 ∷ []) (2 ∷ []))
     -- the answer is the sum of the sizes
-    × (roots_left (got (roots_of (4 ∷ 3 ∷ []) (5 ∷ [])) 9) (roots_of (11 ∷ 12 ∷ 13 ∷ []) (14 ∷ 15 ∷ [])) ≡ leaves (Is 7 9) (4 ∷ 3 ∷ 13 ∷ []) (5 ∷ 15 ∷ []))
-    × (roots_left (no Above 9) (roots_of (11 ∷ 12 ∷ 13 ∷ []) (14 ∷ 15 ∷ [])) ≡ leaves (Not Above 9) (0 ∷ 0 ∷ 0 ∷ []) (0 ∷ 0 ∷ []))
+    × (roots_left (got (roots_of (4 ∷ 3 ∷ []) (5 ∷ [])) 9) (roots_of (11 ∷ 12 ∷ 13 ∷ []) (14 ∷ 15 ∷ [])) ≡ leaves (Ok (record { value = 7; after = 9 })) (4 ∷ 3 ∷ 13 ∷ []) (5 ∷ 15 ∷ []))
+    × (roots_left (no Above 9) (roots_of (11 ∷ 12 ∷ 13 ∷ []) (14 ∷ 15 ∷ [])) ≡ leaves (broken Above 9) (0 ∷ 0 ∷ 0 ∷ []) (0 ∷ 0 ∷ []))
 answers_pinned = (refl, refl, refl, refl, refl, refl, refl, refl, refl, refl, refl, refl, refl, refl, refl, refl)
 
 -- what is read stands in the list from a cell on; of a refusal only the answer is told; the sum of the sizes up to one more than the limit
-pub stores_pinned : (e : Ended) (r : Reading) (list : List ℕ) (lists : LatchLists) (after : Roots)
-    → (◌≡◌ {A = Type 0} (Stores (got (5 ∷ 6 ∷ []) 7) e 1 (9 ∷ 8 ∷ 7 ∷ 6 ∷ []) list) ((e ≡ After 7) × (list ≡ (9 ∷ 5 ∷ 6 ∷ 6 ∷ []))))
-    × (◌≡◌ {A = Type 0} (Stores (no Above 7) e 1 (9 ∷ 8 ∷ 7 ∷ 6 ∷ []) list) (e ≡ Broken Above 7))
+pub stores_pinned : (e : Result ℕ Broken) (r : Result Reading Broken) (list : List ℕ) (lists : LatchLists) (after : Roots)
+    → (◌≡◌ {A = Type 0} (Stores (got (5 ∷ 6 ∷ []) 7) e 1 (9 ∷ 8 ∷ 7 ∷ 6 ∷ []) list) ((e ≡ Ok 7) × (list ≡ (9 ∷ 5 ∷ 6 ∷ 6 ∷ []))))
+    × (◌≡◌ {A = Type 0} (Stores (no Above 7) e 1 (9 ∷ 8 ∷ 7 ∷ 6 ∷ []) list) (e ≡ broken Above 7))
     × (◌≡◌ {A = Type 0} (StoresLatches (got (latch_line 5 15 ∷ latch_line 6 16 ∷ []) 7) e (latch_lists (9 ∷ 8 ∷ 7 ∷ []) (19 ∷ [])) lists)
-    ((e ≡ After 7) × (lists.nexts ≡ (5 ∷ 6 ∷ 7 ∷ [])) × (lists.resets ≡ (15 ∷ []))))
-    × (◌≡◌ {A = Type 0} (StoresLatches (no Above 7) e (latch_lists (9 ∷ []) (19 ∷ [])) lists) (e ≡ Broken Above 7))
-    × (◌≡◌ {A = Type 0} (StoresSizes (got (5 ∷ 6 ∷ []) 7) r (9 ∷ 8 ∷ 7 ∷ []) list) ((r ≡ Is 11 7) × (list ≡ (5 ∷ 6 ∷ 7 ∷ []))))
-    × (◌≡◌ {A = Type 0} (StoresSizes (got (1048575 ∷ 6 ∷ []) 7) r (9 ∷ 8 ∷ 7 ∷ []) list) ((r ≡ Is 1048576 7) × (list ≡ (1048575 ∷ 6 ∷ 7 ∷ []))))
-    × (◌≡◌ {A = Type 0} (StoresSizes (no Above 7) r (9 ∷ 8 ∷ 7 ∷ []) list) (r ≡ Not Above 7))
+    ((e ≡ Ok 7) × (lists.nexts ≡ (5 ∷ 6 ∷ 7 ∷ [])) × (lists.resets ≡ (15 ∷ []))))
+    × (◌≡◌ {A = Type 0} (StoresLatches (no Above 7) e (latch_lists (9 ∷ []) (19 ∷ [])) lists) (e ≡ broken Above 7))
+    × (◌≡◌ {A = Type 0} (StoresSizes (got (5 ∷ 6 ∷ []) 7) r (9 ∷ 8 ∷ 7 ∷ []) list) ((r ≡ Ok (record { value = 11; after = 7 })) × (list ≡ (5 ∷ 6 ∷ 7 ∷ []))))
+    × (◌≡◌ {A = Type 0} (StoresSizes (got (1048575 ∷ 6 ∷ []) 7) r (9 ∷ 8 ∷ 7 ∷ []) list) ((r ≡ Ok (record { value = 1048576; after = 7 })) × (list ≡ (1048575 ∷ 6 ∷ 7 ∷ []))))
+    × (◌≡◌ {A = Type 0} (StoresSizes (no Above 7) r (9 ∷ 8 ∷ 7 ∷ []) list) (r ≡ broken Above 7))
     × (◌≡◌ {A = Type 0} (StoresRoots (got (roots_of (4 ∷ 3 ∷ []) (5 ∷ [])) 9) r 1 (roots_of (11 ∷ 12 ∷ 13 ∷ []) (14 ∷ 15 ∷ 16 ∷
-    [])) after) ((r ≡ Is 7 9) × (after.sizes ≡ (4 ∷ 3 ∷ 13 ∷ [])) × (after.roots ≡ (14 ∷ 5 ∷ 16 ∷ []))))
-    × (◌≡◌ {A = Type 0} (StoresRoots (no Above 9) r 1 (roots_of (11 ∷ 12 ∷ 13 ∷ []) (14 ∷ 15 ∷ 16 ∷ [])) after) (r ≡ Not Above 9))
+    [])) after) ((r ≡ Ok (record { value = 7; after = 9 })) × (after.sizes ≡ (4 ∷ 3 ∷ 13 ∷ [])) × (after.roots ≡ (14 ∷ 5 ∷ 16 ∷ []))))
+    × (◌≡◌ {A = Type 0} (StoresRoots (no Above 9) r 1 (roots_of (11 ∷ 12 ∷ 13 ∷ []) (14 ∷ 15 ∷ 16 ∷ [])) after) (r ≡ broken Above 9))
 stores_pinned e r list lists after = (refl, refl, refl, refl, refl, refl, refl, refl, refl)

@@ -1,10 +1,10 @@
 -- What a latch's reset may be: 0, 1 or its own literal. Refusal 22 is exactly the rest, and resets that are read have no stray among them. Assumes nothing.
 use Prim.Native.Nat.{ℕ, zero, suc, ◌+◌, ◌*◌, ◌≤◌, ◌<◌}
+use Rattle.std.specs.Prelude.{Some, None, Ok, Err}
 use mathlib.Core.Path.{◌≡◌, refl, sym, ap, ◌∙◌}
 use mathlib.Core.Bool.{Bool, true, false, cond, ◌||◌}
 use mathlib.Core.Logic.{◌↔◌}
 use mathlib.Core.List.{List, ◌∷◌}
-use mathlib.Core.Option.{none, some}
 use native.Mathlib.Omega.{arith}
 use lib.Dec.{leb, eqb}
 use borrow.Author.Tests.{leb-false, ne_eqb}
@@ -12,9 +12,7 @@ use Rattle.circuit.specs.Circuit.{is_reset, first_stray}
 use Rattle.circuit.specs.Ordered.{count_from}
 use Rattle.circuit.specs.Claims.{IsReset}
 use Rattle.circuit.proofs.Checks.{is_stray_lem}
-use Rattle.token.specs.Answer.{header_field_at}
-use Rattle.token.specs.declared.Token.{Token}
-use Rattle.token.specs.declared.Token.TheVariants.{Value, Refused}
+use Rattle.token.specs.Answer.{Token, header_field_at}
 use Rattle.lines.specs.declared.Fault.{Fault}
 use Rattle.lines.specs.declared.Fault.TheVariants.{Missing, Reset}
 use Rattle.lines.specs.Reading.{Read, got, no, ◌▸◌, row_at}
@@ -124,7 +122,7 @@ latch_may s most own at l end e =
     ap (λ (x : LatchLine). is_reset own x.reset) (sym (got_same u.then)) ∙ reset_may s most own t.place u.first u.place u.read
 
 row_no_stray : (s : List ℕ) (most first k n at : ℕ) (ls : List LatchLine) (end : ℕ) → row_at (λ j. latch_at s most (first + 2 * j)) k n at ≡ got ls end
-    → first_stray (count_from (first + 2 * k) n) (resets_of ls) ≡ none
+    → first_stray (count_from (first + 2 * k) n) (resets_of ls) ≡ None
 row_no_stray s most first k zero at ls end e = refl
 row_no_stray s most first k (suc n) at ls end e =
     let t =
@@ -134,11 +132,11 @@ row_no_stray s most first k (suc n) at ls end e =
     let later : first + 2 * suc k ≡ first + 2 * k + 2 = omega arith in
     let may = latch_may s most (first + 2 * k) at t.first t.place t.read in
     ap (λ (x : List LatchLine). first_stray (count_from (first + 2 * k) (suc n)) (resets_of x)) (sym (got_same u.then))
-    ∙ ap (λ (b : Bool). cond b (first_stray (count_from (first + 2 * k + 2) n) (resets_of u.first)) (some t.first.reset)) may
+    ∙ ap (λ (b : Bool). cond b (first_stray (count_from (first + 2 * k + 2) n) (resets_of u.first)) (Some t.first.reset)) may
     ∙ ap (λ (c : ℕ). first_stray (count_from c n) (resets_of u.first)) (sym later) ∙ rest
 
 pub latches_no_stray : (s : List ℕ) (most first n at : ℕ) (ls : List LatchLine) (end : ℕ) → latches_at s most first n at ≡ got ls end
-    → first_stray (count_from first n) (resets_of ls) ≡ none
+    → first_stray (count_from first n) (resets_of ls) ≡ None
 unfolding latches_at
 latches_no_stray s most first n at ls end e =
     let zeroth : first + 2 * 0 ≡ first = omega arith in
@@ -152,8 +150,8 @@ unfolding number_at
 number_other s most at place e = go (header_field_at s at most) e
   where
     go : (t : Token) → number_of at t ≡ no Reset place → ⊥
-    go (Value v n) f = let z : ◌≡◌ {A = ℕ} 0 1 = cc in omega arith
-    go (Refused why p) f = let z : ◌≡◌ {A = ℕ} 0 1 = cc in omega arith
+    go (Ok t) f = let z : ◌≡◌ {A = ℕ} 0 1 = cc in omega arith
+    go (Err x) f = let z : ◌≡◌ {A = ℕ} 0 1 = cc in omega arith
 
 byte_other : {A : Type 0} (a : A) (s : List ℕ) (b at place : ℕ) → (byte_at s b at ▸ λ _ at₁. got a at₁) ≡ no Reset place → ⊥
 unfolding byte_at

@@ -4,7 +4,7 @@ use Prim.Native.Nat.{ℕ}
 use mathlib.Core.Path.{◌≡◌, sym, ap, ◌∙◌}
 use mathlib.Core.Logic.{◌↔◌}
 use mathlib.Core.List.{List}
-use mathlib.Core.Option.{none}
+use Rattle.std.specs.Prelude.{None}
 use Rattle.promise.specs.Determined.{Determines, DeterminesCells}
 use Rattle.circuit.specs.Circuit.{first_stray}
 use Rattle.circuit.specs.Ordered.{count_from}
@@ -15,8 +15,8 @@ use Rattle.lines.specs.Sections.{Roots, roots_of}
 use Rattle.lines.specs.Promise.{LatchLists, latch_lists, LatchesLeft, Left}
 use Rattle.lines.specs.Stray.{Stray}
 use Rattle.lines.proofs.Resets.{stray_exactly, latches_no_stray}
-use Rattle.lines.proofs.fault_number.Kinds as number-kinds
-use Rattle.lines.proofs.fault_number.Reads as number-contract
+use Rattle.lines.proofs.U32FromFault.from.Kinds as number-kinds
+use Rattle.lines.proofs.U32FromFault.from.Reads as number-contract
 use Rattle.lines.proofs.byte.Kinds as byte-kinds
 use Rattle.lines.proofs.byte.Reads as byte-contract
 use Rattle.lines.proofs.latch.Kinds as latch-kinds
@@ -27,6 +27,8 @@ use Rattle.lines.proofs.count.Kinds as count-kinds
 use Rattle.lines.proofs.count.Reads as count-contract
 use Rattle.lines.proofs.read_header.Kinds as header-kinds
 use Rattle.lines.proofs.read_header.Reads as header-contract
+use Rattle.lines.proofs.first_roots.Kinds as first-kinds
+use Rattle.lines.proofs.first_roots.Reads as first-contract
 use Rattle.lines.proofs.roots.Kinds as roots-kinds
 use Rattle.lines.proofs.roots.Reads as roots-contract
 
@@ -51,6 +53,9 @@ one_count κs a x y e f p q = p ∙ sym q
 pub one_read_header : Determines 1 header-kinds.ps header-kinds.r header-contract.Learnt
 one_read_header κs a x y e f p q = p ∙ sym q
 
+pub one_first_roots : Determines 0 first-kinds.ps first-kinds.r first-contract.Learnt
+one_first_roots κs a x y e f p q = p.0 ∙ sym q.0
+
 pub one_roots : DeterminesCells 3 roots-kinds.ps roots-kinds.r roots-contract.Learnt {A = Roots}
     (λ κs e. roots_of e.1.1.1.1.0.now e.1.1.1.1.1.0.now)
 one_roots κs a x y e f p q = (ap (λ (o : Left). o.answer) (p ∙ sym q), ap (λ (o : Left). o.lists) (p ∙ sym q))
@@ -63,5 +68,5 @@ reset_refused_exactly = stray_exactly
 -- 3. Resets that are read pass check 22: there is no stray among them.
 
 pub resets_read_pass : (s : List ℕ) (most first n at : ℕ) (ls : List LatchLine) (end : ℕ) → latches_at s most first n at ≡ got ls end
-    → first_stray (count_from first n) (resets_of ls) ≡ none
+    → first_stray (count_from first n) (resets_of ls) ≡ None
 resets_read_pass = latches_no_stray

@@ -1,11 +1,11 @@
 -- Codes and literals that pin the definitions, by computation: each is one on which a neighbouring definition answers otherwise. Assumes nothing.
+use Rattle.std.specs.Prelude.{Some, None}
 use mathlib.Core.Path.{◌≡◌, refl}
 use mathlib.Core.Bool.{true, false}
 use Rattle.lit.specs.Code.{is_odd, flipped, variable, literal, halved, doubled, flipped_by}
-use Rattle.lit.specs.declared.Doubled.TheVariants.{Code, TooBig}
 
 -- the index 3 and the code 6 name the same variable, and so does the code 7; 0 and 1 are the constant's
-pub named : (doubled (variable 3) ≡ Code (literal 6)) × (halved (literal 6) ≡ variable 3) × (halved (literal 7) ≡ variable 3)
+pub named : (doubled (variable 3) ≡ Some (literal 6)) × (halved (literal 6) ≡ variable 3) × (halved (literal 7) ≡ variable 3)
     × (halved (literal 0) ≡ variable 0) × (halved (literal 1) ≡ variable 0)
 unfolding doubled
 named = (refl, refl, refl, refl, refl)
@@ -16,7 +16,7 @@ unfolding is_odd
 signs = (refl, refl, refl, refl)
 
 -- the largest index whose code fits 32 bits, and the one after it
-pub doubled-limit : (doubled (variable 2147483647) ≡ Code (literal 4294967294)) × (doubled (variable 2147483648) ≡ TooBig)
+pub doubled-limit : (doubled (variable 2147483647) ≡ Some (literal 4294967294)) × (doubled (variable 2147483648) ≡ None)
 unfolding doubled
 doubled-limit = (refl, refl)
 

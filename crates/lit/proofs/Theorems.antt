@@ -1,5 +1,6 @@
 -- What follows of the definitions of specs/Code.antt: each contract allows one answer, and halving undoes doubling. What a flip
 -- keeps and changes stands in proofs/Flips.antt. Assumes nothing.
+use Rattle.std.specs.Prelude.{Some, None}
 use Prim.Native.Nat.{ℕ, ◌*◌, ◌^◌, ◌<◌, ◌≤◌}
 use mathlib.Core.Path.{◌≡◌, sym, ◌∙◌, ap}
 use mathlib.Core.Bool.{Bool, true, false, cond}
@@ -9,7 +10,6 @@ use borrow.Author.Tests.{lt-ltb, le-ltb}
 use Rattle.lit.specs.Code.{variable, literal, halved, doubled}
 use Rattle.lit.specs.declared.Var.{Var}
 use Rattle.lit.specs.declared.Lit.{Lit}
-use Rattle.lit.specs.declared.Doubled.TheVariants.{Code, TooBig}
 use Rattle.promise.specs.Determined.{Determines}
 use Rattle.lit.proofs.Var.from_index.Kinds as var-from-index-kinds
 use Rattle.lit.proofs.Var.from_index.Reads as var-from-index-promise
@@ -50,19 +50,19 @@ pub one_lit_flipped : Determines 0 lit-flipped-kinds.ps lit-flipped-kinds.r lit-
 one_lit_flipped κs a x y e f p q = p ∙ sym q
 
 -- doubling answers a code exactly for the indexes below 2 ^ 31
-pub doubled_code : (v : Var) → v.0 < 2 ^ 31 → doubled v ≡ Code (literal (2 * v.0))
+pub doubled_code : (v : Var) → v.0 < 2 ^ 31 → doubled v ≡ Some (literal (2 * v.0))
 unfolding doubled
 doubled_code v h = rw (lt-ltb (2 * v.0) 4294967296 (omega arith))
 
-pub doubled_big : (v : Var) → 2 ^ 31 ≤ v.0 → doubled v ≡ TooBig
+pub doubled_big : (v : Var) → 2 ^ 31 ≤ v.0 → doubled v ≡ None
 unfolding doubled
 doubled_big v h = rw (le-ltb (2 * v.0) 4294967296 (omega arith))
 
 -- halving undoes doubling
-pub halved-doubled : (v : Var) (l : Lit) → doubled v ≡ Code l → halved l ≡ v
+pub halved-doubled : (v : Var) (l : Lit) → doubled v ≡ Some l → halved l ≡ v
 unfolding doubled
 halved-doubled v l e = go (ltb (2 * v.0) 4294967296) e
   where
-    go : (b : Bool) → cond b (Code (literal (2 * v.0))) TooBig ≡ Code l → halved l ≡ v
+    go : (b : Bool) → cond b (Some (literal (2 * v.0))) None ≡ Some l → halved l ≡ v
     go true d = let k : literal (2 * v.0) ≡ l = cc in ap halved (sym k) ∙ ap variable (omega arith)
     go false d = let z : ◌≡◌ {A = ℕ} 0 1 = cc in absurd (omega arith)

@@ -1,10 +1,8 @@
 -- Literal codes, after the AIGER format paper: the variable of index v has the literal 2v and the negated literal 2v + 1; the codes 0 and
 -- 1 are constant false and true. Assumes nothing.
-use Rattle.std.specs.Prelude.{ℕ, ◌+◌, ◌*◌, ◌/◌, ◌%◌, ◌^◌, Bool, cond, eqb, ltb}
+use Rattle.std.specs.Prelude.{ℕ, ◌+◌, ◌*◌, ◌/◌, ◌%◌, ◌^◌, Bool, cond, eqb, ltb, Option, Some, None}
 use Rattle.lit.specs.declared.Var.{Var}
 use Rattle.lit.specs.declared.Lit.{Lit}
-use Rattle.lit.specs.declared.Doubled.{Doubled}
-use Rattle.lit.specs.declared.Doubled.TheVariants.{Code, TooBig}
 
 -- the index of the variable that a code names
 abbrev pub var : ℕ → ℕ
@@ -31,8 +29,8 @@ abbrev pub halved : Lit → Var
 halved l = variable (var l.0)
 
 -- a variable's literal that is not negated, by doubling, if its code fits the 32 bits of a code
-unfoldable pub doubled : Var → Doubled
-doubled v = cond (ltb (2 * v.0) (2 ^ 32)) (Code (literal (2 * v.0))) TooBig
+unfoldable pub doubled : Var → Option Lit
+doubled v = cond (ltb (2 * v.0) (2 ^ 32)) (Some (literal (2 * v.0))) None
 
 -- the literal t, negated if the literal c is a negated one
 abbrev pub flipped_by : Lit → Lit → Lit

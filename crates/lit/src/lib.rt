@@ -5,20 +5,13 @@
 ghost use Rattle.std.specs.Prelude.{◌≡◌};
 ghost use Rattle.lit.specs.Code.{variable, literal, halved, doubled, flipped_by};
 
-// A variable by its index; 0 is the constant.
-#[derive(Clone, Copy)]
+// A variable by its index; 0 is the constant. Variables compare as their indexes do.
+#[derive(Clone, Copy, PartialEq, Eq, PartialOrd, Ord)]
 pub struct Var(u32);
 
-// A literal by its code: its variable's index doubled, and one more if it is negated.
-#[derive(Clone, Copy)]
+// A literal by its code: its variable's index doubled, and one more if it is negated. Literals compare as their codes do.
+#[derive(Clone, Copy, PartialEq, Eq, PartialOrd, Ord)]
 pub struct Lit(u32);
-
-// What doubling an index answers: the literal, or that its code would not fit.
-#[derive(Clone, Copy)]
-pub enum Doubled {
-    Code(Lit),
-    TooBig,
-}
 
 impl Var {
     pub fn from_index(index: u32) -> Var
@@ -34,16 +27,12 @@ impl Var {
         index
     }
 
-    // The variable's literal that is not negated.
-    pub fn lit(self) -> Doubled
+    // The variable's literal that is not negated; there is none if its code would not fit.
+    #[tactic(auto, unfolding(crate::specs::Code::doubled))]
+    pub fn lit(self) -> Option<Lit>
         ensures { result ≡ doubled self }
     {
-        let half = self.0;
-        if half < 2147483648 {
-            Doubled::Code(Lit(2 * half))
-        } else {
-            Doubled::TooBig
-        }
+        self.0.checked_mul(2).map(Lit)
     }
 }
 
@@ -69,6 +58,7 @@ impl Lit {
     }
 
     // The literal, negated if `by` is a negated one.
+    #[tactic(auto, unfolding(crate::specs::Code::flipped))]
     pub fn flipped(self, by: Lit) -> Lit
         ensures { result ≡ flipped_by self by }
     {

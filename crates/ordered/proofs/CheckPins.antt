@@ -1,6 +1,7 @@
 -- Ordered circuits that are checked by example: each the smallest on which a neighbouring definition answers otherwise; two faults at a time, in the order
 -- of the checks; and each bound, at it and one past it. By computation. Assumes nothing.
 use Prim.Native.Nat.{ℕ, zero, suc, ◌+◌, ◌<◌, ◌≤◌}
+use Rattle.std.specs.Prelude.{Err}
 use mathlib.Core.Path.{◌≡◌, refl}
 use mathlib.Core.Bool.{true, false}
 use mathlib.Core.List.{List, [], ◌∷◌}
@@ -11,9 +12,7 @@ use Rattle.lit.specs.Code.{literal}
 use Rattle.circuit.specs.Walk.{Pair, first_code}
 use Rattle.circuit.specs.Outcome.{total}
 use Rattle.ordered.specs.declared.given.Fault.TheVariants.{TooBig, Misshapen, Over, Reset, Disordered, Short}
-use Rattle.ordered.specs.declared.given.Checked.{Checked}
-use Rattle.ordered.specs.declared.given.Checked.TheVariants.{Fits, Faulty}
-use Rattle.ordered.specs.Check.{fault_number, fault_literal, Words, circuit_in, words_of, too_large, uneven, checked}
+use Rattle.ordered.specs.Check.{Checked, fits, fault_number, fault_literal, Words, circuit_in, words_of, too_large, uneven, checked}
 
 pub faults_pinned :
     (fault_number TooBig ≡ 1)
@@ -40,10 +39,10 @@ abbrev words : ℕ → List ℕ → List ℕ → List ℕ → List ℕ → List 
 words inputs counts nexts gates sizes roots = words_with inputs counts nexts (replicate (length nexts) 0) gates sizes roots
 
 abbrev over : ℕ → Checked
-over c = Faulty (Over (literal c))
+over c = Err (Over (literal c))
 
 abbrev disordered : ℕ → Checked
-disordered c = Faulty (Disordered (literal c))
+disordered c = Err (Disordered (literal c))
 
 abbrev pair : ℕ → ℕ → Pair
 pair a b = record { larger = a; smaller = b }
@@ -93,37 +92,37 @@ words_pinned = (refl, refl)
 -- circuits that fit
 pub fits_pinned :
     -- nothing at all, where no code is over 1; inputs and latches alone
-    (checked (gated 0 []) 0 ≡ Fits)
-    × (checked (gated 0 []) 1 ≡ Fits)
-    × (checked (words 2 none (0 ∷ 7 ∷ []) [] [] []) 9 ≡ Fits)
+    (checked (gated 0 []) 0 ≡ fits)
+    × (checked (gated 0 []) 1 ≡ fits)
+    × (checked (words 2 none (0 ∷ 7 ∷ []) [] [] []) 9 ≡ fits)
     -- each code at 2V + 1, the code asked too; a first input one below its gate's code, and both inputs equal
-    × (checked (single 5 2 7 7) 7 ≡ Fits)
-    × (checked (single 5 5 0 0) 0 ≡ Fits)
-    × (checked (single 1 0 7 7) 0 ≡ Fits)
+    × (checked (single 5 2 7 7) 7 ≡ fits)
+    × (checked (single 5 5 0 0) 0 ≡ fits)
+    × (checked (single 1 0 7 7) 0 ≡ fits)
     -- a gate of a gate; a gate with no inputs and no latches
-    × (checked (double (5 ∷ 2 ∷ 7 ∷ 6 ∷ [])) 9 ≡ Fits)
-    × (checked (gated 0 (1 ∷ 1 ∷ [])) 3 ≡ Fits)
+    × (checked (double (5 ∷ 2 ∷ 7 ∷ 6 ∷ [])) 9 ≡ fits)
+    × (checked (gated 0 (1 ∷ 1 ∷ [])) 3 ≡ fits)
     -- roots of all five kinds, and sizes that sum to the last, in any number of sets
-    × (checked (words 0 (1 ∷ 1 ∷ 1 ∷ 1 ∷ 1 ∷ []) [] [] (1 ∷ []) (0 ∷ 1 ∷ 0 ∷ 1 ∷ 0 ∷ [])) 0 ≡ Fits)
-    × (checked (words 0 (0 ∷ 0 ∷ 0 ∷ 0 ∷ 3 ∷ []) [] [] (2 ∷ 0 ∷ 1 ∷ []) (0 ∷ 1 ∷ 1 ∷ [])) 0 ≡ Fits)
-    × (checked (words 0 (0 ∷ 0 ∷ 0 ∷ 1 ∷ 0 ∷ []) [] [] [] (0 ∷ [])) 0 ≡ Fits)
+    × (checked (words 0 (1 ∷ 1 ∷ 1 ∷ 1 ∷ 1 ∷ []) [] [] (1 ∷ []) (0 ∷ 1 ∷ 0 ∷ 1 ∷ 0 ∷ [])) 0 ≡ fits)
+    × (checked (words 0 (0 ∷ 0 ∷ 0 ∷ 0 ∷ 3 ∷ []) [] [] (2 ∷ 0 ∷ 1 ∷ []) (0 ∷ 1 ∷ 1 ∷ [])) 0 ≡ fits)
+    × (checked (words 0 (0 ∷ 0 ∷ 0 ∷ 1 ∷ 0 ∷ []) [] [] [] (0 ∷ [])) 0 ≡ fits)
     -- of a row with no fifth count there are no justice literals
-    × (checked (words 0 (1 ∷ []) [] [] [] (0 ∷ [])) 0 ≡ Fits)
+    × (checked (words 0 (1 ∷ []) [] [] [] (0 ∷ [])) 0 ≡ fits)
 unfolding checked too_large uneven first_code
 fits_pinned = (refl, refl, refl, refl, refl, refl, refl, refl, refl, refl, refl, refl)
 
 -- 1: I, V and the other sizes at 1,048,575, and one over it
 pub limits_pinned :
-    (checked (gated 1048575 []) 0 ≡ Fits)
-    × (checked (gated 1048576 []) 0 ≡ Faulty TooBig)
-    × (checked (gated 4294967295 []) 0 ≡ Faulty TooBig)
-    × (checked (words 1048574 none (2097151 ∷ []) [] [] []) 2097151 ≡ Fits)
-    × (checked (words 1048575 none (0 ∷ []) [] [] []) 0 ≡ Faulty TooBig)
-    × (checked (gated 1048574 (2097149 ∷ 0 ∷ [])) 2097151 ≡ Fits)
-    × (checked (gated 1048575 (0 ∷ 0 ∷ [])) 0 ≡ Faulty TooBig)
-    × (checked (words 1048574 none (0 ∷ []) (0 ∷ 0 ∷ []) [] []) 0 ≡ Faulty TooBig)
+    (checked (gated 1048575 []) 0 ≡ fits)
+    × (checked (gated 1048576 []) 0 ≡ Err TooBig)
+    × (checked (gated 4294967295 []) 0 ≡ Err TooBig)
+    × (checked (words 1048574 none (2097151 ∷ []) [] [] []) 2097151 ≡ fits)
+    × (checked (words 1048575 none (0 ∷ []) [] [] []) 0 ≡ Err TooBig)
+    × (checked (gated 1048574 (2097149 ∷ 0 ∷ [])) 2097151 ≡ fits)
+    × (checked (gated 1048575 (0 ∷ 0 ∷ [])) 0 ≡ Err TooBig)
+    × (checked (words 1048574 none (0 ∷ []) (0 ∷ 0 ∷ []) [] []) 0 ≡ Err TooBig)
     -- a word of gates that is left over counts for none
-    × (checked (gated 1048575 (0 ∷ [])) 0 ≡ Faulty Misshapen)
+    × (checked (gated 1048575 (0 ∷ [])) 0 ≡ Err Misshapen)
     -- each of V, R and the number of justice sets
     × (too_large 1048575 1048575 1048575 ≡ false)
     × (too_large 1048576 0 0 ≡ true)
@@ -134,16 +133,16 @@ limits_pinned = (refl, refl, refl, refl, refl, refl, refl, refl, refl, refl, ref
 
 -- 2: one output more or less, with a sum of 2 ^ 32 for none; the sizes against the last count and no other; words that are left over
 pub sums_pinned :
-    (checked (words 0 (outputs 1) [] [] [] []) 0 ≡ Faulty Misshapen)
-    × (checked (words 0 none [] [] [] (0 ∷ [])) 0 ≡ Faulty Misshapen)
-    × (checked (words 0 (4294967295 ∷ 1 ∷ 0 ∷ 0 ∷ 0 ∷ []) [] [] [] []) 0 ≡ Faulty Misshapen)
-    × (checked (words 0 (0 ∷ 0 ∷ 0 ∷ 0 ∷ 1 ∷ []) [] [] [] (0 ∷ [])) 0 ≡ Faulty Misshapen)
-    × (checked (words 0 (0 ∷ 0 ∷ 0 ∷ 0 ∷ 1 ∷ []) [] [] (0 ∷ 2 ∷ []) (0 ∷ [])) 0 ≡ Faulty Misshapen)
-    × (checked (words 0 (0 ∷ 0 ∷ 0 ∷ 0 ∷ 1 ∷ []) [] [] (4294967295 ∷ 2 ∷ []) (0 ∷ [])) 0 ≡ Faulty Misshapen)
-    × (checked (words 0 (0 ∷ 0 ∷ 0 ∷ 1 ∷ 0 ∷ []) [] [] (1 ∷ []) (0 ∷ [])) 0 ≡ Faulty Misshapen)
-    × (checked (words 0 (outputs 1) [] [] (1 ∷ []) (0 ∷ [])) 0 ≡ Faulty Misshapen)
-    × (checked (gated 1 (2 ∷ [])) 0 ≡ Faulty Misshapen)
-    × (checked (gated 1 (2 ∷ 2 ∷ 2 ∷ [])) 0 ≡ Faulty Misshapen)
+    (checked (words 0 (outputs 1) [] [] [] []) 0 ≡ Err Misshapen)
+    × (checked (words 0 none [] [] [] (0 ∷ [])) 0 ≡ Err Misshapen)
+    × (checked (words 0 (4294967295 ∷ 1 ∷ 0 ∷ 0 ∷ 0 ∷ []) [] [] [] []) 0 ≡ Err Misshapen)
+    × (checked (words 0 (0 ∷ 0 ∷ 0 ∷ 0 ∷ 1 ∷ []) [] [] [] (0 ∷ [])) 0 ≡ Err Misshapen)
+    × (checked (words 0 (0 ∷ 0 ∷ 0 ∷ 0 ∷ 1 ∷ []) [] [] (0 ∷ 2 ∷ []) (0 ∷ [])) 0 ≡ Err Misshapen)
+    × (checked (words 0 (0 ∷ 0 ∷ 0 ∷ 0 ∷ 1 ∷ []) [] [] (4294967295 ∷ 2 ∷ []) (0 ∷ [])) 0 ≡ Err Misshapen)
+    × (checked (words 0 (0 ∷ 0 ∷ 0 ∷ 1 ∷ 0 ∷ []) [] [] (1 ∷ []) (0 ∷ [])) 0 ≡ Err Misshapen)
+    × (checked (words 0 (outputs 1) [] [] (1 ∷ []) (0 ∷ [])) 0 ≡ Err Misshapen)
+    × (checked (gated 1 (2 ∷ [])) 0 ≡ Err Misshapen)
+    × (checked (gated 1 (2 ∷ 2 ∷ 2 ∷ [])) 0 ≡ Err Misshapen)
 unfolding checked too_large uneven first_code
 sums_pinned = (refl, refl, refl, refl, refl, refl, refl, refl, refl, refl)
 
@@ -171,21 +170,21 @@ abbrev latched : List ℕ → List ℕ → Words
 latched nexts resets = words_with 2 none nexts resets [] [] []
 
 abbrev stray : ℕ → Checked
-stray c = Faulty (Reset (literal c))
+stray c = Err (Reset (literal c))
 
 -- resets: 0, 1, the latch's own literal; 22 for the other latch's, the own one negated, an input's; the first that is at fault; each at its place
 pub resets_pinned :
-    (checked (latched (0 ∷ 9 ∷ []) (0 ∷ 1 ∷ [])) 0 ≡ Fits)
-    × (checked (latched (0 ∷ 9 ∷ []) (6 ∷ 8 ∷ [])) 0 ≡ Fits)
+    (checked (latched (0 ∷ 9 ∷ []) (0 ∷ 1 ∷ [])) 0 ≡ fits)
+    × (checked (latched (0 ∷ 9 ∷ []) (6 ∷ 8 ∷ [])) 0 ≡ fits)
     × (checked (latched (0 ∷ 9 ∷ []) (8 ∷ 8 ∷ [])) 0 ≡ stray 8)
     × (checked (latched (0 ∷ 9 ∷ []) (6 ∷ 6 ∷ [])) 0 ≡ stray 6)
     × (checked (latched (0 ∷ 9 ∷ []) (7 ∷ 9 ∷ [])) 0 ≡ stray 7)
     × (checked (latched (0 ∷ 9 ∷ []) (0 ∷ 9 ∷ [])) 0 ≡ stray 9)
     × (checked (latched (0 ∷ 9 ∷ []) (2 ∷ 3 ∷ [])) 0 ≡ stray 2)
     -- 2: one more, one fewer; 2 before 4 and before 22
-    × (checked (latched (0 ∷ 9 ∷ []) (0 ∷ [])) 0 ≡ Faulty Misshapen)
-    × (checked (latched (0 ∷ 9 ∷ []) (0 ∷ 0 ∷ 0 ∷ [])) 0 ≡ Faulty Misshapen)
-    × (checked (latched (0 ∷ 10 ∷ []) (2 ∷ [])) 0 ≡ Faulty Misshapen)
+    × (checked (latched (0 ∷ 9 ∷ []) (0 ∷ [])) 0 ≡ Err Misshapen)
+    × (checked (latched (0 ∷ 9 ∷ []) (0 ∷ 0 ∷ 0 ∷ [])) 0 ≡ Err Misshapen)
+    × (checked (latched (0 ∷ 10 ∷ []) (2 ∷ [])) 0 ≡ Err Misshapen)
     -- 4 goes latch by latch, next state and reset; 4 before 22, by a later latch, a root, the code asked
     × (checked (latched (0 ∷ 9 ∷ []) (0 ∷ 10 ∷ [])) 0 ≡ over 10)
     × (checked (latched (11 ∷ 9 ∷ []) (10 ∷ 0 ∷ [])) 0 ≡ over 11)
@@ -219,20 +218,20 @@ order_pinned = (refl, refl, refl, refl, refl, refl, refl, refl, refl, refl, refl
 -- two faults at a time, in the order 1, 2, 4, 23; with 22 among them above
 pub order_of_checks_pinned :
     -- 1 before 2, by a word that is left over and by each sum; before 4, by each list; before 23
-    (checked (gated 1048576 (0 ∷ [])) 0 ≡ Faulty TooBig)
-    × (checked (words 1048576 none [] [] [] (0 ∷ [])) 0 ≡ Faulty TooBig)
-    × (checked (words 1048576 none [] [] (1 ∷ []) []) 0 ≡ Faulty TooBig)
-    × (checked (gated 1048576 (4294967295 ∷ 0 ∷ [])) 0 ≡ Faulty TooBig)
-    × (checked (words 1048576 none (4294967295 ∷ []) [] [] []) 0 ≡ Faulty TooBig)
-    × (checked (words 1048576 (outputs 1) [] [] [] (4294967295 ∷ [])) 0 ≡ Faulty TooBig)
-    × (checked (gated 1048576 []) 4294967295 ≡ Faulty TooBig)
-    × (checked (gated 1048576 (2 ∷ 3 ∷ [])) 0 ≡ Faulty TooBig)
+    (checked (gated 1048576 (0 ∷ [])) 0 ≡ Err TooBig)
+    × (checked (words 1048576 none [] [] [] (0 ∷ [])) 0 ≡ Err TooBig)
+    × (checked (words 1048576 none [] [] (1 ∷ []) []) 0 ≡ Err TooBig)
+    × (checked (gated 1048576 (4294967295 ∷ 0 ∷ [])) 0 ≡ Err TooBig)
+    × (checked (words 1048576 none (4294967295 ∷ []) [] [] []) 0 ≡ Err TooBig)
+    × (checked (words 1048576 (outputs 1) [] [] [] (4294967295 ∷ [])) 0 ≡ Err TooBig)
+    × (checked (gated 1048576 []) 4294967295 ≡ Err TooBig)
+    × (checked (gated 1048576 (2 ∷ 3 ∷ [])) 0 ≡ Err TooBig)
     -- 2 before 4 and before 23
-    × (checked (gated 1 (8 ∷ [])) 0 ≡ Faulty Misshapen)
-    × (checked (words 1 none [] [] [] (8 ∷ [])) 0 ≡ Faulty Misshapen)
-    × (checked (words 1 none (8 ∷ []) [] (1 ∷ []) []) 8 ≡ Faulty Misshapen)
-    × (checked (gated 1 (2 ∷ 3 ∷ 2 ∷ [])) 0 ≡ Faulty Misshapen)
-    × (checked (words 1 none [] (2 ∷ 3 ∷ []) (1 ∷ []) []) 0 ≡ Faulty Misshapen)
+    × (checked (gated 1 (8 ∷ [])) 0 ≡ Err Misshapen)
+    × (checked (words 1 none [] [] [] (8 ∷ [])) 0 ≡ Err Misshapen)
+    × (checked (words 1 none (8 ∷ []) [] (1 ∷ []) []) 8 ≡ Err Misshapen)
+    × (checked (gated 1 (2 ∷ 3 ∷ 2 ∷ [])) 0 ≡ Err Misshapen)
+    × (checked (words 1 none [] (2 ∷ 3 ∷ []) (1 ∷ []) []) 0 ≡ Err Misshapen)
     -- 4 before 23: in the gate that is not in order, in a later one, in the other lists
     × (checked (single 2 8 0 0) 0 ≡ over 8)
     × (checked (double (2 ∷ 3 ∷ 10 ∷ 2 ∷ [])) 0 ≡ over 10)
@@ -244,12 +243,12 @@ order_of_checks_pinned = (refl, refl, refl, refl, refl, refl, refl, refl, refl, 
 
 -- lists of any length: of next states, of roots, of justice sets, those within the limit pass check 1, and longer ones do not
 pub many_pinned :
-    ((n : ℕ) → n ≤ 1048575 → checked (words 0 none (replicate n 0) (0 ∷ []) [] []) 0 ≡ Faulty Misshapen)
-    × ((n : ℕ) → 1048575 < n → checked (words 0 none (replicate n 0) (0 ∷ []) [] []) 0 ≡ Faulty TooBig)
-    × ((n : ℕ) → n ≤ 1048575 → checked (words 0 (outputs 4294967295) [] [] [] (replicate n 0)) 0 ≡ Faulty Misshapen)
-    × ((n : ℕ) → 1048575 < n → checked (words 0 (outputs 4294967295) [] [] [] (replicate n 0)) 0 ≡ Faulty TooBig)
-    × ((n : ℕ) → n ≤ 1048575 → checked (words 0 none [] [] (replicate n 0) []) 0 ≡ Fits)
-    × ((n : ℕ) → 1048575 < n → checked (words 0 none [] [] (replicate n 0) []) 0 ≡ Faulty TooBig)
+    ((n : ℕ) → n ≤ 1048575 → checked (words 0 none (replicate n 0) (0 ∷ []) [] []) 0 ≡ Err Misshapen)
+    × ((n : ℕ) → 1048575 < n → checked (words 0 none (replicate n 0) (0 ∷ []) [] []) 0 ≡ Err TooBig)
+    × ((n : ℕ) → n ≤ 1048575 → checked (words 0 (outputs 4294967295) [] [] [] (replicate n 0)) 0 ≡ Err Misshapen)
+    × ((n : ℕ) → 1048575 < n → checked (words 0 (outputs 4294967295) [] [] [] (replicate n 0)) 0 ≡ Err TooBig)
+    × ((n : ℕ) → n ≤ 1048575 → checked (words 0 none [] [] (replicate n 0) []) 0 ≡ fits)
+    × ((n : ℕ) → 1048575 < n → checked (words 0 none [] [] (replicate n 0) []) 0 ≡ Err TooBig)
 unfolding checked too_large uneven first_code
 many_pinned = (
   λ n h. rw (length-replicate {A = ℕ} n 0, length-replicate {A = ℕ} n 0, eq-eqb n n refl, le-ltb 1048575 (0 + n + 0) (omega arith)),

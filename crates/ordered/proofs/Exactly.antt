@@ -4,7 +4,7 @@ use Prim.Native.Nat.{ℕ, zero, suc, ◌+◌, ◌*◌, ◌/◌, ◌%◌, ◌<◌
 use mathlib.Core.Path.{◌≡◌, refl, sym, ap, ◌∙◌, subst, subst⁻¹}
 use mathlib.Core.Logic.{inl, inr, ◌↔◌}
 use mathlib.Core.Bool.{Bool, true, false, cond, not, ◌||◌}
-use mathlib.Core.Option.{Option, none, some}
+use Rattle.std.specs.Prelude.{Option, Some, None, Ok, Err}
 use mathlib.Core.List.{List, [], ◌∷◌, ◌++◌}
 use native.Mathlib.Omega.{arith}
 use lib.Dec.{eqb, leb, ltb}
@@ -23,10 +23,8 @@ use Rattle.circuit.proofs.Checks.{no_over, one_over, over_test, none_over, Stray
 use Rattle.circuit.proofs.Ordered.{count_from-length, count_from_get_d}
 use Rattle.circuit.proofs.Listed.{within-left, within_right, within_join}
 use Rattle.ordered.specs.declared.given.Fault.TheVariants.{TooBig, Misshapen, Over, Reset, Disordered, Short}
-use Rattle.ordered.specs.declared.given.Checked.{Checked}
-use Rattle.ordered.specs.declared.given.Checked.TheVariants.{Fits, Faulty}
 use Rattle.ordered.specs.WellOrdered.{variables_of, latches_of, WellOrdered}
-use Rattle.ordered.specs.Check.{Words, circuit_in, words_of, too_large, uneven, uneven_in, codes_in, breaks_order, first_disordered, fault_at, checked}
+use Rattle.ordered.specs.Check.{Checked, fits, Words, circuit_in, words_of, too_large, uneven, uneven_in, codes_in, breaks_order, first_disordered, fault_at, checked}
 use Rattle.ordered.specs.Given.{Given, limited, Even, GateInOrder, FirstLoose, Says}
 use Rattle.ordered.proofs.Laid.{pairs_length, words_length, pairs_of_words}
 
@@ -117,11 +115,11 @@ in_place (x ∷ xs) c (inr i) = let p = in_place xs c i in (suc p.0, omega (arit
 
 -- check 4: the first over the bound
 
-first_over_lem : (b c : ℕ) (before after : List ℕ) → AllWithin b before → b < c → first_over b (before ++ (c ∷ after)) ≡ some c
+first_over_lem : (b c : ℕ) (before after : List ℕ) → AllWithin b before → b < c → first_over b (before ++ (c ∷ after)) ≡ Some c
 first_over_lem b c [] after w h = rw (lt-leb c b h)
 first_over_lem b c (x ∷ before) after w h = rw (le-leb x b (w x (inl refl))) (first_over_lem b c before after (λ y i. w y (inr i)) h)
 
-is_first_over : (b : ℕ) (cs : List ℕ) (c : ℕ) → FirstOver b cs c → first_over b cs ≡ some c
+is_first_over : (b : ℕ) (cs : List ℕ) (c : ℕ) → FirstOver b cs c → first_over b cs ≡ Some c
 is_first_over b cs c k = ap (first_over b) k.splits ∙ first_over_lem b c k.before k.after k.within k.is_over
 
 -- of two lists side by side, and check 4 of them
@@ -159,8 +157,8 @@ abbrev AllInOrder : ℕ → List Pair → Type 0
 AllInOrder t ps = (j : ℕ) → j < length ps → GateInOrder t ps j
 
 pub data Loose (t : ℕ) (ps : List Pair) : Option ℕ → Type 0 where
-  none_loose : AllInOrder t ps → Loose t ps none
-  one_loose : (d : ℕ) → FirstLoose t ps d → Loose t ps (some d)
+  none_loose : AllInOrder t ps → Loose t ps None
+  one_loose : (d : ℕ) → FirstLoose t ps d → Loose t ps (Some d)
 
 -- one gate
 pub data Breaks (t : ℕ) (p : Pair) : Bool → Type 0 where
@@ -190,7 +188,7 @@ loose_test t (p ∷ ps) = go (breaks_order t p) (breaks_test t p) (first_disorde
     upto n k f zero h = k
     upto n k f (suc j) h = later t p ps j (f j (omega arith))
 
-    go : (b : Bool) → Breaks t p b → (o : Option ℕ) → Loose (t + 2) ps o → Loose t (p ∷ ps) (cond b (some t) o)
+    go : (b : Bool) → Breaks t p b → (o : Option ℕ) → Loose (t + 2) ps o → Loose t (p ∷ ps) (cond b (Some t) o)
     go true (breaks h) o v =
         one_loose t (record { place = 0; inside = omega arith; code = omega arith; is_loose = h; before = λ j i. absurd (omega arith) })
     go false (keeps h) o (none_loose f) = none_loose (upto (length ps) h f)
@@ -204,28 +202,28 @@ loose_test t (p ∷ ps) = go (breaks_order t p) (breaks_test t p) (first_disorde
           before = upto k.place h k.before;
         })
 
-none_loose_lem : (t : ℕ) (ps : List Pair) → AllInOrder t ps → first_disordered t ps ≡ none
+none_loose_lem : (t : ℕ) (ps : List Pair) → AllInOrder t ps → first_disordered t ps ≡ None
 none_loose_lem t ps f = go (first_disordered t ps) (loose_test t ps)
   where
-    go : (o : Option ℕ) → Loose t ps o → o ≡ none
+    go : (o : Option ℕ) → Loose t ps o → o ≡ None
     go o (none_loose g) = refl
     go o (one_loose d k) = absurd (k.is_loose (f k.place k.inside))
 
-is_first_loose : (t : ℕ) (ps : List Pair) (d : ℕ) → FirstLoose t ps d → first_disordered t ps ≡ some d
+is_first_loose : (t : ℕ) (ps : List Pair) (d : ℕ) → FirstLoose t ps d → first_disordered t ps ≡ Some d
 is_first_loose t ps d k = go (first_disordered t ps) (loose_test t ps)
   where
-    go : (o : Option ℕ) → Loose t ps o → o ≡ some d
+    go : (o : Option ℕ) → Loose t ps o → o ≡ Some d
     go o (none_loose f) = absurd (k.is_loose (f k.place k.inside))
     go o (one_loose d' k') =
         let e = same_place k'.place k.place (λ h. k'.is_loose (k.before k'.place h)) (λ h. k.is_loose (k'.before k.place h)) in
-        ap some (omega (arith, k.code, k'.code))
+        ap Some (omega (arith, k.code, k'.code))
 
 -- where check 2 is passed the sums agree; the gates have two words each, and each latch has its reset
 passes_2 : (w : Words) → uneven_in w ≡ false → Even w
 passes_2 w e = go (uneven_in w) (sums_test w) e
   where
     go : (b : Bool) → Sums w b → b ≡ false → Even w
-    go b (unequal f) e = absurd (let z : ◌≡◌ {A = ℕ} 0 1 = cc in omega arith)
+    go b (unequal f) e = absurd cc
     go b (equal k) e = k
 
 pub even_words : (w : Words) → uneven_in w ≡ false → length w.gates % 2 ≡ 0
@@ -244,8 +242,8 @@ words_within b (x ∷ y ∷ ws) e f c (inr (inl i)) = omega (arith, (f 0 (omega 
 words_within b (x ∷ y ∷ ws) e f c (inr (inr i)) = words_within b ws (omega arith) (λ j h. f (suc j) (omega arith)) c i
 
 -- the inputs of gates that are in order are below the gates' own codes, so that none is over a bound that these keep
-pub in_order_within : (t b : ℕ) (ws : List ℕ) → length ws % 2 ≡ 0 → t + length ws ≤ b + 1 → AllInOrder t (pairs_of ws) → first_over b ws ≡ none
-in_order_within t b ws even fits f =
+pub in_order_within : (t b : ℕ) (ws : List ℕ) → length ws % 2 ≡ 0 → t + length ws ≤ b + 1 → AllInOrder t (pairs_of ws) → first_over b ws ≡ None
+in_order_within t b ws even room f =
     none_over b ws
     (words_within b ws even
     (λ j i. let g = f j i in (omega (arith, g.1, i, pairs_length ws), omega (arith, g.0, g.1, i, pairs_length ws))))
@@ -301,12 +299,12 @@ module _ (w : Words) (asked : ℕ) where
   says = one (too_large (variables_of (circuit_in w)) (length w.roots) (length w.sizes)) (large_test w)
     where
       last : AllWithin limit (limited w) → Even w → AllWithin bound all → AllReset owns w.resets → (o : Option ℕ) → Loose first (circuit_in w).gates o
-          → Says w asked (fault_at o Disordered Fits)
+          → Says w asked (fault_at o Disordered fits)
       last small even within reset o (none_loose f) = collected small even within reset f
       last small even within reset o (one_loose d k) = (small, even, within, reset, k)
 
       stray : AllWithin limit (limited w) → Even w → AllWithin bound all → (o : Option ℕ) → Stray owns w.resets o
-          → Says w asked (fault_at o Reset (fault_at (first_disordered first (circuit_in w).gates) Disordered Fits))
+          → Says w asked (fault_at o Reset (fault_at (first_disordered first (circuit_in w).gates) Disordered fits))
       stray small even within o (none_stray f) =
           last small even within f (first_disordered first (circuit_in w).gates) (loose_test first (circuit_in w).gates)
       stray small even within o (one_stray r k) = (small, even, within, k)
@@ -314,23 +312,23 @@ module _ (w : Words) (asked : ℕ) where
       four : AllWithin limit (limited w) → Even w → (o : Option ℕ) → checks.Over bound all o
           → Says w asked
           (fault_at o Over
-          (fault_at (first_stray owns w.resets) Reset (fault_at (first_disordered first (circuit_in w).gates) Disordered Fits)))
+          (fault_at (first_stray owns w.resets) Reset (fault_at (first_disordered first (circuit_in w).gates) Disordered fits)))
       four small even o (no_over f) = stray small even f (first_stray owns w.resets) (stray_test owns w.resets)
       four small even o (one_over c k) = (small, even, k)
 
       two : AllWithin limit (limited w) → (b : Bool) → Sums w b
           → Says w asked
-          (cond b (Faulty Misshapen) (fault_at (first_over bound all) Over
-          (fault_at (first_stray owns w.resets) Reset (fault_at (first_disordered first (circuit_in w).gates) Disordered Fits))))
+          (cond b (Err Misshapen) (fault_at (first_over bound all) Over
+          (fault_at (first_stray owns w.resets) Reset (fault_at (first_disordered first (circuit_in w).gates) Disordered fits))))
       two small b (unequal f) = (small, f)
       two small b (equal e) = four small e (first_over bound all) (over_test bound all)
 
       one : (b : Bool) → Large w b
           → Says w asked
-          (cond b (Faulty TooBig)
-          (cond (uneven_in w) (Faulty Misshapen)
+          (cond b (Err TooBig)
+          (cond (uneven_in w) (Err Misshapen)
           (fault_at (first_over bound all) Over
-          (fault_at (first_stray owns w.resets) Reset (fault_at (first_disordered first (circuit_in w).gates) Disordered Fits)))))
+          (fault_at (first_stray owns w.resets) Reset (fault_at (first_disordered first (circuit_in w).gates) Disordered fits)))))
       one b (is_large n i h) = (n, i, h)
       one b (is_small f) = two f (uneven_in w) (sums_test w)
 
@@ -352,7 +350,7 @@ module _ (w : Words) (asked : ℕ) where
   -- and what is true is answered
   pub answered : (a : Checked) → Says w asked a → checked w asked ≡ a
   unfolding checked
-  answered Fits k =
+  answered (Ok t) k =
       let o = k.0.ordered in
       rw (
         is_small_lem w (in_limits w o.variables o.few k.0.sets),
@@ -361,12 +359,12 @@ module _ (w : Words) (asked : ℕ) where
         none_stray_lem owns w.resets o.resets,
         none_loose_lem first (circuit_in w).gates o.gates,
       )
-  answered (Faulty TooBig) k = rw (is_large_lem w k.0 k.1 k.2)
-  answered (Faulty Misshapen) k = rw (is_small_lem w k.0, is_uneven_lem w k.1)
-  answered (Faulty (Over d)) k = rw (is_small_lem w k.0, is_even w k.1, is_first_over bound all d.0 k.2)
-  answered (Faulty (Reset d)) k =
+  answered (Err TooBig) k = rw (is_large_lem w k.0 k.1 k.2)
+  answered (Err Misshapen) k = rw (is_small_lem w k.0, is_uneven_lem w k.1)
+  answered (Err (Over d)) k = rw (is_small_lem w k.0, is_even w k.1, is_first_over bound all d.0 k.2)
+  answered (Err (Reset d)) k =
       rw (is_small_lem w k.0, is_even w k.1, none_over bound all k.2, is_first_stray owns w.resets d.0 k.3)
-  answered (Faulty (Disordered d)) k =
+  answered (Err (Disordered d)) k =
       rw (
         is_small_lem w k.0,
         is_even w k.1,
@@ -374,7 +372,7 @@ module _ (w : Words) (asked : ℕ) where
         none_stray_lem owns w.resets k.3,
         is_first_loose first (circuit_in w).gates d.0 k.4,
       )
-  answered (Faulty Short) k = absurd k
+  answered (Err Short) k = absurd k
 
   -- an answer is given exactly where what it says is true
   pub exactly : (a : Checked) → (checked w asked ≡ a) ↔ Says w asked a
@@ -396,9 +394,9 @@ given_ordered O sizes k few e =
     }
 
 pub always_fits : (O : Ordered) (sizes : List ℕ) → WellOrdered O → length sizes ≤ limit → total sizes ≡ get_or O.counts 4 0
-    → (asked : ℕ) → asked ≤ 2 * variables_of O + 1 → checked (words_of O sizes) asked ≡ Fits
+    → (asked : ℕ) → asked ≤ 2 * variables_of O + 1 → checked (words_of O sizes) asked ≡ fits
 always_fits O sizes k few e asked h =
-    answered (words_of O sizes) asked Fits
+    answered (words_of O sizes) asked fits
     (given_ordered O sizes k few e, subst⁻¹ (λ (P : Ordered). asked ≤ 2 * variables_of P + 1) (circuit_back O sizes) h)
 
 -- what is lent is the circuit's own words

@@ -1,6 +1,7 @@
 -- An ordered circuit within the limits whose gates are in order passes checks 1, 2, 4 and 22 as it is given: its codes are counted upwards, and an input is below
 -- its gate's code, which is at most 2V. It defines no variable twice and all that is walked is grounded, so that renumbering succeeds, and then its values are
 -- kept. Assumes nothing.
+use Rattle.std.specs.Prelude.{Ok}
 use Prim.Native.Nat.{ℕ, zero, suc, ◌+◌, ◌*◌, ◌≤◌, ◌<◌}
 use mathlib.Core.Path.{◌≡◌, sym, ap, ◌∙◌, subst, subst⁻¹}
 use mathlib.Core.Logic.{inl, inr}
@@ -10,7 +11,6 @@ use native.Mathlib.Omega.{arith}
 use lib.ListN.{length, get_or}
 use Rattle.lit.specs.Code.{var, literal}
 use Rattle.circuit.specs.declared.Summary.{Summary}
-use Rattle.circuit.specs.declared.Answer.TheVariants.{Renumbered}
 use Rattle.circuit.specs.Graph.{In, Graph, DefinedOnce}
 use Rattle.circuit.specs.Walk.{first_code}
 use Rattle.circuit.specs.Circuit.{Circuit, graph}
@@ -22,8 +22,7 @@ use Rattle.circuit.specs.Demands.{AfterSuccess}
 use Rattle.circuit.proofs.Demands.{demands}
 use Rattle.circuit.proofs.Listed.{walked_exactly}
 use Rattle.circuit.proofs.Ordered.{count_from-length, gates_from-length, gates_from_place, ordered_once, ordered_grounded}
-use Rattle.ordered.specs.declared.Expansion.TheVariants.{Expanded}
-use Rattle.ordered.specs.Expand.{Lists, Outcome, expansion, Lends}
+use Rattle.ordered.specs.Expand.{expanded, Lists, Outcome, expansion, Lends}
 use Rattle.ordered.specs.WellOrdered.{variables_of, WellOrdered}
 use Rattle.ordered.specs.Keeps.{Keeps}
 use Rattle.ordered.proofs.Laid.{laid_length, words_length}
@@ -80,7 +79,7 @@ module _ (O : Ordered) (k : WellOrdered O) (trim hash fold : Bool) where
       low (inr (inr h)) = k.roots c h
 
   -- lent after `expand`
-  module _ (lists : Lists) (o : Outcome) (e : o ≡ expansion O.inputs (length O.nexts) (pair_words O.gates) lists) (f : o.answer ≡ Expanded)
+  module _ (lists : Lists) (o : Outcome) (e : o ≡ expansion O.inputs (length O.nexts) (pair_words O.gates) lists) (f : o.answer ≡ expanded)
       (l : Lent) (lends : Lends O trim hash fold o.lists l) where
     same : circuit_of l ≡ given O trim hash fold
     same = expanded-given O lists o e f trim hash fold l lends
@@ -125,21 +124,21 @@ module _ (O : Ordered) (k : WellOrdered O) (trim hash fold : Bool) where
         }
 
     -- and renumbering succeeds
-    pub renumbers : Roomy l (circuit_of l) → (s : Summary) × ((C.outcome l).answer ≡ Renumbered s)
+    pub renumbers : Roomy l (circuit_of l) → (s : Summary) × ((C.outcome l).answer ≡ Ok s)
     renumbers room =
         ((demands l).succeeds_exactly (passes room)).1 (subst⁻¹ (λ (x : Circuit). DefinedOnce (graph x) × AllGrounded x) same (once, grounded))
 
-    success : (r : C.Outcome) → r ≡ C.outcome l → (s : Summary) → r.answer ≡ Renumbered s
+    success : (r : C.Outcome) → r ≡ C.outcome l → (s : Summary) → r.answer ≡ Ok s
         → AfterSuccess l (circuit_of l) (C.outcome l) s (held l s (C.outcome l))
     success r left s answered = (demands l).success s (sym (ap (λ (x : C.Outcome). x.answer) left) ∙ answered)
 
     -- after a success the gates are in order
-    pub in_order : (r : C.Outcome) → r ≡ C.outcome l → (s : Summary) → r.answer ≡ Renumbered s → InOrder (sources_of (held l s r)) (held l s r).gates
+    pub in_order : (r : C.Outcome) → r ≡ C.outcome l → (s : Summary) → r.answer ≡ Ok s → InOrder (sources_of (held l s r)) (held l s r).gates
     in_order r left s answered =
         subst⁻¹ (λ (x : C.Outcome). InOrder (sources_of (held l s x)) (held l s x).gates) left (success r left s answered).gates_in_order
 
     -- no gate is added
-    pub no_more : (r : C.Outcome) → r ≡ C.outcome l → (s : Summary) → r.answer ≡ Renumbered s → length (held l s r).gates ≤ length O.gates
+    pub no_more : (r : C.Outcome) → r ≡ C.outcome l → (s : Summary) → r.answer ≡ Ok s → length (held l s r).gates ≤ length O.gates
     unfolding given
     no_more r left s answered =
         let after = success r left s answered in
@@ -148,7 +147,7 @@ module _ (O : Ordered) (k : WellOrdered O) (trim hash fold : Bool) where
         subst⁻¹ (λ (x : C.Outcome). length (held l s x).gates ≤ length O.gates) left (omega (arith, after.holds.made, after.made_few, many))
 
     -- and every next state and root has its value
-    pub keeps : (r : C.Outcome) → r ≡ C.outcome l → (s : Summary) → r.answer ≡ Renumbered s → Keeps O (held l s r)
+    pub keeps : (r : C.Outcome) → r ≡ C.outcome l → (s : Summary) → r.answer ≡ Ok s → Keeps O (held l s r)
     unfolding given ordered_graph
     keeps r left s answered = subst⁻¹ (λ (x : C.Outcome). Keeps O (held l s x)) left kept
       where
@@ -192,7 +191,7 @@ module _ (O : Ordered) (k : WellOrdered O) (trim hash fold : Bool) where
 
 -- `expand` fills its lists of such a circuit where they are long enough
 pub fills : (O : Ordered) → WellOrdered O → (lists : Lists) → O.inputs ≤ length lists.inputs → length O.nexts ≤ length lists.states
-    → 3 * length O.gates ≤ length lists.triples → (expansion O.inputs (length O.nexts) (pair_words O.gates) lists).answer ≡ Expanded
+    → 3 * length O.gates ≤ length lists.triples → (expansion O.inputs (length O.nexts) (pair_words O.gates) lists).answer ≡ expanded
 fills O k lists p q r =
     let n = words_length O.gates in
     sym (ap (λ (x : Outcome). x.answer)
@@ -200,7 +199,7 @@ fills O k lists p q r =
 
 -- what a success leaves is well ordered
 
-module _ (l : Lent) (s : Summary) (e : (C.outcome l).answer ≡ Renumbered s) where
+module _ (l : Lent) (s : Summary) (e : (C.outcome l).answer ≡ Ok s) where
   abbrev D : Ordered
   D = held l s (C.outcome l)
 

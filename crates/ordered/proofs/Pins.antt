@@ -2,6 +2,7 @@
 -- its own, and longer than asked; the words past those asked for are seen to stay. By computation. And which circuits are well ordered, by example, each
 -- field at its bound and one past it. Assumes nothing.
 use Prim.Native.Nat.{ℕ, zero, suc, ◌≤◌, ◌<◌}
+use Rattle.std.specs.Prelude.{Err}
 use mathlib.Core.Path.{◌≡◌, refl}
 use mathlib.Core.Logic.{inl, inr}
 use mathlib.Core.Bool.{Bool}
@@ -14,9 +15,8 @@ use Rattle.circuit.specs.Graph.{Gate}
 use Rattle.circuit.specs.Ordered.{Ordered, InOrder}
 use Rattle.circuit.specs.Outcome.{Lent, lent_of}
 use Rattle.circuit.specs.Claims.{AllWithin, IsReset, AllReset}
-use Rattle.ordered.specs.declared.Expansion.{Expansion}
-use Rattle.ordered.specs.declared.Expansion.TheVariants.{Expanded, TooBig, Misshapen, Short}
-use Rattle.ordered.specs.Expand.{expansion_number, gate_words, Lists, Outcome, seen, filled, expansion, Lends}
+use Rattle.ordered.specs.declared.Unexpanded.TheVariants.{TooBig, Misshapen, Short}
+use Rattle.ordered.specs.Expand.{Expansion, expanded, expansion_number, gate_words, Lists, Outcome, seen, filled, expansion, Lends}
 use Rattle.ordered.specs.WellOrdered.{WellOrdered}
 
 -- the three lists, and with an answer what is left of them
@@ -30,12 +30,12 @@ abbrev gate : ℕ → ℕ → ℕ → Gate
 gate o a b = record { output = o; first = a; second = b }
 
 pub words_pinned :
-    (expansion_number Expanded ≡ 0)
-    × (expansion_number TooBig ≡ 1)
-    × (expansion_number Misshapen ≡ 2)
-    × (expansion_number Short ≡ 3)
+    (expansion_number expanded ≡ 0)
+    × (expansion_number (Err TooBig) ≡ 1)
+    × (expansion_number (Err Misshapen) ≡ 2)
+    × (expansion_number (Err Short) ≡ 3)
     × (gate_words (gate 1 2 3 ∷ gate 4 5 6 ∷ []) ≡ (1 ∷ 2 ∷ 3 ∷ 4 ∷ 5 ∷ 6 ∷ []))
-    × (seen Short (lists (1 ∷ []) (2 ∷ []) (3 ∷ [])) ≡ leaves Short (lists (1 ∷ []) (2 ∷ []) (3 ∷ [])))
+    × (seen (Err Short) (lists (1 ∷ []) (2 ∷ []) (3 ∷ [])) ≡ leaves (Err Short) (lists (1 ∷ []) (2 ∷ []) (3 ∷ [])))
 words_pinned = (refl, refl, refl, refl, refl, refl)
 
 -- two gates, 12(6,2) and 14(3,9) where there are three inputs and two latches; the second has its inputs as they are given
@@ -49,33 +49,33 @@ dirty = lists (21 ∷ 22 ∷ 23 ∷ 24 ∷ []) (31 ∷ 32 ∷ 33 ∷ []) (41 ∷
 pub expansions_pinned :
     -- inputs 2, 4, 6, the latches' states 8 and 10, gates 12 and 14; the word past each stays; and lists that are just long enough
     (filled 3 2 two dirty ≡ lists (2 ∷ 4 ∷ 6 ∷ 24 ∷ []) (8 ∷ 10 ∷ 33 ∷ []) (12 ∷ 6 ∷ 2 ∷ 14 ∷ 3 ∷ 9 ∷ 47 ∷ []))
-    × (expansion 3 2 two dirty ≡ leaves Expanded (lists (2 ∷ 4 ∷ 6 ∷ 24 ∷ []) (8 ∷ 10 ∷ 33 ∷ []) (12 ∷ 6 ∷ 2 ∷ 14 ∷ 3 ∷ 9 ∷ 47 ∷ [])))
+    × (expansion 3 2 two dirty ≡ leaves expanded (lists (2 ∷ 4 ∷ 6 ∷ 24 ∷ []) (8 ∷ 10 ∷ 33 ∷ []) (12 ∷ 6 ∷ 2 ∷ 14 ∷ 3 ∷ 9 ∷ 47 ∷ [])))
     × (expansion 3 2 two (lists (9 ∷ 9 ∷ 9 ∷ []) (9 ∷ 9 ∷ []) (9 ∷ 9 ∷ 9 ∷ 9 ∷ 9 ∷ 9 ∷ []))
-    ≡ leaves Expanded (lists (2 ∷ 4 ∷ 6 ∷ []) (8 ∷ 10 ∷ []) (12 ∷ 6 ∷ 2 ∷ 14 ∷ 3 ∷ 9 ∷ [])))
+    ≡ leaves expanded (lists (2 ∷ 4 ∷ 6 ∷ []) (8 ∷ 10 ∷ []) (12 ∷ 6 ∷ 2 ∷ 14 ∷ 3 ∷ 9 ∷ [])))
     -- one of each, in lists that are just long enough; nothing at all
-    × (expansion 1 1 (5 ∷ 3 ∷ []) (lists (9 ∷ []) (9 ∷ []) (9 ∷ 9 ∷ 9 ∷ [])) ≡ leaves Expanded (lists (2 ∷ []) (4 ∷ []) (6 ∷ 5 ∷ 3 ∷ [])))
-    × (expansion 0 0 [] dirty ≡ leaves Expanded dirty)
+    × (expansion 1 1 (5 ∷ 3 ∷ []) (lists (9 ∷ []) (9 ∷ []) (9 ∷ 9 ∷ 9 ∷ [])) ≡ leaves expanded (lists (2 ∷ []) (4 ∷ []) (6 ∷ 5 ∷ 3 ∷ [])))
+    × (expansion 0 0 [] dirty ≡ leaves expanded dirty)
     -- I, L, and the sum of I, L and G at 1,048,575, and one over it; an odd word is no gate
-    × (expansion 1048575 0 [] dirty ≡ leaves Short dirty)
-    × (expansion 1048576 0 [] dirty ≡ leaves TooBig dirty)
-    × (expansion 0 1048575 [] dirty ≡ leaves Short dirty)
-    × (expansion 0 1048576 [] dirty ≡ leaves TooBig dirty)
-    × (expansion 1048572 1 two dirty ≡ leaves Short dirty)
-    × (expansion 1048573 1 two dirty ≡ leaves TooBig dirty)
-    × (expansion 1048572 1 (1 ∷ two) dirty ≡ leaves Misshapen dirty)
-    × (expansion 1048572 1 (1 ∷ 2 ∷ two) dirty ≡ leaves TooBig dirty)
+    × (expansion 1048575 0 [] dirty ≡ leaves (Err Short) dirty)
+    × (expansion 1048576 0 [] dirty ≡ leaves (Err TooBig) dirty)
+    × (expansion 0 1048575 [] dirty ≡ leaves (Err Short) dirty)
+    × (expansion 0 1048576 [] dirty ≡ leaves (Err TooBig) dirty)
+    × (expansion 1048572 1 two dirty ≡ leaves (Err Short) dirty)
+    × (expansion 1048573 1 two dirty ≡ leaves (Err TooBig) dirty)
+    × (expansion 1048572 1 (1 ∷ two) dirty ≡ leaves (Err Misshapen) dirty)
+    × (expansion 1048572 1 (1 ∷ 2 ∷ two) dirty ≡ leaves (Err TooBig) dirty)
     -- 1 before 2; three words of gates: 2, before the short lists; one
-    × (expansion 1048573 1 (1 ∷ two) dirty ≡ leaves TooBig dirty)
-    × (expansion 3 2 (6 ∷ 2 ∷ 3 ∷ []) dirty ≡ leaves Misshapen dirty)
-    × (expansion 3 2 (6 ∷ 2 ∷ 3 ∷ []) (lists [] [] []) ≡ leaves Misshapen (lists [] [] []))
-    × (expansion 3 2 (6 ∷ []) dirty ≡ leaves Misshapen dirty)
+    × (expansion 1048573 1 (1 ∷ two) dirty ≡ leaves (Err TooBig) dirty)
+    × (expansion 3 2 (6 ∷ 2 ∷ 3 ∷ []) dirty ≡ leaves (Err Misshapen) dirty)
+    × (expansion 3 2 (6 ∷ 2 ∷ 3 ∷ []) (lists [] [] []) ≡ leaves (Err Misshapen) (lists [] [] []))
+    × (expansion 3 2 (6 ∷ []) dirty ≡ leaves (Err Misshapen) dirty)
     -- each list a word too short
     × (expansion 3 2 two (lists (9 ∷ 9 ∷ []) (9 ∷ 9 ∷ []) (9 ∷ 9 ∷ 9 ∷ 9 ∷ 9 ∷ 9 ∷ []))
-    ≡ leaves Short (lists (9 ∷ 9 ∷ []) (9 ∷ 9 ∷ []) (9 ∷ 9 ∷ 9 ∷ 9 ∷ 9 ∷ 9 ∷ [])))
+    ≡ leaves (Err Short) (lists (9 ∷ 9 ∷ []) (9 ∷ 9 ∷ []) (9 ∷ 9 ∷ 9 ∷ 9 ∷ 9 ∷ 9 ∷ [])))
     × (expansion 3 2 two (lists (9 ∷ 9 ∷ 9 ∷ []) (9 ∷ []) (9 ∷ 9 ∷ 9 ∷ 9 ∷ 9 ∷ 9 ∷ []))
-    ≡ leaves Short (lists (9 ∷ 9 ∷ 9 ∷ []) (9 ∷ []) (9 ∷ 9 ∷ 9 ∷ 9 ∷ 9 ∷ 9 ∷ [])))
+    ≡ leaves (Err Short) (lists (9 ∷ 9 ∷ 9 ∷ []) (9 ∷ []) (9 ∷ 9 ∷ 9 ∷ 9 ∷ 9 ∷ 9 ∷ [])))
     × (expansion 3 2 two (lists (9 ∷ 9 ∷ 9 ∷ []) (9 ∷ 9 ∷ []) (9 ∷ 9 ∷ 9 ∷ 9 ∷ 9 ∷ []))
-    ≡ leaves Short (lists (9 ∷ 9 ∷ 9 ∷ []) (9 ∷ 9 ∷ []) (9 ∷ 9 ∷ 9 ∷ 9 ∷ 9 ∷ [])))
+    ≡ leaves (Err Short) (lists (9 ∷ 9 ∷ 9 ∷ []) (9 ∷ 9 ∷ []) (9 ∷ 9 ∷ 9 ∷ 9 ∷ 9 ∷ [])))
 unfolding expansion first_code
 expansions_pinned = (refl, refl, refl, refl, refl, refl, refl, refl, refl, refl, refl, refl, refl, refl, refl, refl, refl, refl, refl, refl)
 

@@ -1,6 +1,7 @@
 -- What the contracts of this crate promise: any two outcomes that they allow for the same arguments are equal, the answer and each lent word; what `check`
 -- answers is true, and what is true is answered; and what `expand` leaves of an ordered circuit is, lent to renumbering, that circuit; a well ordered one is
 -- always renumbered, and comes out as it went in where every flag is off. Assumes nothing.
+use Rattle.std.specs.Prelude.{Ok, Err}
 use Prim.Native.Nat.{ℕ, ◌+◌, ◌*◌, ◌<◌, ◌≤◌}
 use mathlib.Core.Path.{◌≡◌, sym, ap, ◌∙◌}
 use mathlib.Core.Logic.{◌≢◌, ◌↔◌}
@@ -14,7 +15,6 @@ use Rattle.circuit.specs.Walk.{Work, reached, first_code}
 use Rattle.circuit.specs.Circuit.{graph, renumber}
 use Rattle.circuit.specs.Ordered.{Ordered, first_latch, ordered_of, sources_of, given, InOrder}
 use Rattle.circuit.specs.declared.Summary.{Summary}
-use Rattle.circuit.specs.declared.Answer.TheVariants.{Renumbered}
 use Rattle.circuit.specs.Outcome as C
 use Rattle.circuit.specs.Outcome.{Lent, circuit_of, limit, total, pair_words, held}
 use Rattle.circuit.specs.Claims.{Within, Roomy, Bounded, AllReset, Passes, AllGrounded, AllWithin, FirstOver, FirstStray}
@@ -23,19 +23,16 @@ use Rattle.ordered.specs.WellOrdered.{variables_of, latches_of, WellOrdered}
 use Rattle.ordered.specs.Keeps.{Keeps}
 use Rattle.ordered.proofs.Passing as passing
 use Rattle.ordered.proofs.Again as again
-use Rattle.ordered.specs.declared.Expansion.TheVariants.{Expanded}
-use Rattle.ordered.specs.Expand.{Lists, Outcome, expansion, Lends}
+use Rattle.ordered.specs.Expand.{expanded, Lists, Outcome, expansion, Lends}
 use Rattle.ordered.specs.declared.given.Fault.TheVariants.{TooBig, Misshapen, Over, Reset, Disordered, Short}
-use Rattle.ordered.specs.declared.given.Checked.{Checked}
-use Rattle.ordered.specs.declared.given.Checked.TheVariants.{Fits, Faulty}
-use Rattle.ordered.specs.Check.{Words, circuit_in, words_of, codes_in, checked}
+use Rattle.ordered.specs.Check.{Checked, fits, Words, circuit_in, words_of, codes_in, checked}
 use Rattle.ordered.specs.Given.{Given, limited, Even, FirstLoose, Says}
 use Rattle.ordered.proofs.Exactly as lent
 use Rattle.ordered.proofs.Expansions as expansions
-use Rattle.ordered.proofs.number.Kinds as number-kinds
-use Rattle.ordered.proofs.number.Reads as number-contract
-use Rattle.ordered.proofs.given.fault_number.Kinds as fault-number-kinds
-use Rattle.ordered.proofs.given.fault_number.Reads as fault-number-contract
+use Rattle.ordered.proofs.U32FromUnexpanded.from.Kinds as number-kinds
+use Rattle.ordered.proofs.U32FromUnexpanded.from.Reads as number-contract
+use Rattle.ordered.proofs.given.U32FromFault.from.Kinds as fault-number-kinds
+use Rattle.ordered.proofs.given.U32FromFault.from.Reads as fault-number-contract
 use Rattle.ordered.proofs.given.fault_literal.Kinds as fault-literal-kinds
 use Rattle.ordered.proofs.given.fault_literal.Reads as fault-literal-contract
 use Rattle.ordered.proofs.given.check.Kinds as check-kinds
@@ -65,41 +62,41 @@ module _ (w : Words) (c : ℕ) where
   exactly = lent.exactly w c
 
   -- an ordered circuit fits, and no other
-  pub fits_exactly : (checked w c ≡ Fits) ↔ (Given w × (c ≤ 2 * variables_of (circuit_in w) + 1))
-  fits_exactly = exactly Fits
+  pub fits_exactly : (checked w c ≡ fits) ↔ (Given w × (c ≤ 2 * variables_of (circuit_in w) + 1))
+  fits_exactly = exactly fits
 
   -- 1: one of the sizes is over the limit
-  pub too_big_exactly : (checked w c ≡ Faulty TooBig) ↔ ((n : ℕ) × In n (limited w) × (limit < n))
-  too_big_exactly = exactly (Faulty TooBig)
+  pub too_big_exactly : (checked w c ≡ Err TooBig) ↔ ((n : ℕ) × In n (limited w) × (limit < n))
+  too_big_exactly = exactly (Err TooBig)
 
   -- 2: the sizes are within the limit, and the sums or the words of gates do not agree
-  pub misshapen_exactly : (checked w c ≡ Faulty Misshapen) ↔ (AllWithin limit (limited w) × (Even w → ⊥))
-  misshapen_exactly = exactly (Faulty Misshapen)
+  pub misshapen_exactly : (checked w c ≡ Err Misshapen) ↔ (AllWithin limit (limited w) × (Even w → ⊥))
+  misshapen_exactly = exactly (Err Misshapen)
 
   -- 4: 1 and 2 are passed, and the code named is the first over 2V + 1
-  pub over_exactly : (d : Lit) → (checked w c ≡ Faulty (Over d))
+  pub over_exactly : (d : Lit) → (checked w c ≡ Err (Over d))
       ↔ (AllWithin limit (limited w) × Even w × FirstOver (2 * variables_of (circuit_in w) + 1) (codes_in w c) d.0)
-  over_exactly d = exactly (Faulty (Over d))
+  over_exactly d = exactly (Err (Over d))
 
   -- 22: 1, 2 and 4 are passed, and the reset named is the first that is not 0, 1 or its latch's literal
-  pub reset_exactly : (d : Lit) → (checked w c ≡ Faulty (Reset d))
+  pub reset_exactly : (d : Lit) → (checked w c ≡ Err (Reset d))
       ↔ (AllWithin limit (limited w) × Even w × AllWithin (2 * variables_of (circuit_in w) + 1) (codes_in w c)
       × FirstStray (latches_of (circuit_in w)) w.resets d.0)
-  reset_exactly d = exactly (Faulty (Reset d))
+  reset_exactly d = exactly (Err (Reset d))
 
   -- 23: 1, 2, 4 and 22 are passed, and the code named is that of the first gate that is not in order
-  pub disordered_exactly : (d : Lit) → (checked w c ≡ Faulty (Disordered d))
+  pub disordered_exactly : (d : Lit) → (checked w c ≡ Err (Disordered d))
       ↔ (AllWithin limit (limited w) × Even w × AllWithin (2 * variables_of (circuit_in w) + 1) (codes_in w c)
       × AllReset (latches_of (circuit_in w)) w.resets × FirstLoose (first_code (sources_of (circuit_in w))) (circuit_in w).gates d.0)
-  disordered_exactly d = exactly (Faulty (Disordered d))
+  disordered_exactly d = exactly (Err (Disordered d))
 
   -- 3 is a caller's answer
-  pub never_short : checked w c ≢ Faulty Short
-  never_short e = (exactly (Faulty Short)).0 e
+  pub never_short : checked w c ≢ Err Short
+  never_short e = (exactly (Err Short)).0 e
 
 -- a well ordered circuit fits, lent as its words, with sizes that sum to the fifth count
 pub always_fits : (O : Ordered) (sizes : List ℕ) → WellOrdered O → length sizes ≤ limit → total sizes ≡ get_or O.counts 4 0
-    → (c : ℕ) → c ≤ 2 * variables_of O + 1 → checked (words_of O sizes) c ≡ Fits
+    → (c : ℕ) → c ≤ 2 * variables_of O + 1 → checked (words_of O sizes) c ≡ fits
 always_fits = lent.always_fits
 
 -- where an ordered circuit is lent, what is lent is its words
@@ -113,7 +110,7 @@ given-within = lent.given-within
 
 -- of an ordered circuit whose gates are lent as words, a success leaves the lists of the circuit `given`
 pub expanded-given : (O : Ordered) (lists : Lists) (o : Outcome) → o ≡ expansion O.inputs (length O.nexts) (pair_words O.gates) lists
-    → o.answer ≡ Expanded → (trim hash fold : Bool) (l : Lent) → Lends O trim hash fold o.lists l → circuit_of l ≡ given O trim hash fold
+    → o.answer ≡ expanded → (trim hash fold : Bool) (l : Lent) → Lends O trim hash fold o.lists l → circuit_of l ≡ given O trim hash fold
 expanded-given = expansions.expanded-given
 
 -- a well ordered circuit passes check 1, check 2 but for the words that are lent, and checks 4 and 22 as it is given, under any flags
@@ -139,11 +136,11 @@ given_grounded O k trim hash fold = (passing.once O k trim hash fold, passing.gr
 
 -- `expand` fills its lists of such a circuit where they are long enough
 pub fills : (O : Ordered) → WellOrdered O → (lists : Lists) → O.inputs ≤ length lists.inputs → length O.nexts ≤ length lists.states
-    → 3 * length O.gates ≤ length lists.triples → (expansion O.inputs (length O.nexts) (pair_words O.gates) lists).answer ≡ Expanded
+    → 3 * length O.gates ≤ length lists.triples → (expansion O.inputs (length O.nexts) (pair_words O.gates) lists).answer ≡ expanded
 fills = passing.fills
 
 module _ (O : Ordered) (ordered : WellOrdered O) (trim hash fold : Bool) (lists : Lists) (o : Outcome)
-    (left : o ≡ expansion O.inputs (length O.nexts) (pair_words O.gates) lists) (filled : o.answer ≡ Expanded) (l : Lent)
+    (left : o ≡ expansion O.inputs (length O.nexts) (pair_words O.gates) lists) (filled : o.answer ≡ expanded) (l : Lent)
     (lends : Lends O trim hash fold o.lists l) where
   -- lists to be written that are long enough for the ordered circuit are long enough for what is lent
   pub long_enough_lem : variables_of O + 1 ≤ length l.map → length O.nexts ≤ length l.next_images → length O.nexts ≤ length l.reset_images
@@ -155,24 +152,24 @@ module _ (O : Ordered) (ordered : WellOrdered O) (trim hash fold : Bool) (lists 
   lent_passes = passing.passes O ordered trim hash fold lists o left filled l lends
 
   -- and renumbering succeeds: an ordered circuit, expanded and lent with lists long enough, is renumbered under every setting of the flags
-  pub always_renumbers : Roomy l (circuit_of l) → (s : Summary) × ((C.outcome l).answer ≡ Renumbered s)
+  pub always_renumbers : Roomy l (circuit_of l) → (s : Summary) × ((C.outcome l).answer ≡ Ok s)
   always_renumbers = passing.renumbers O ordered trim hash fold lists o left filled l lends
 
   -- no gate is added
-  pub no_more_gates : (r : C.Outcome) → r ≡ C.outcome l → (s : Summary) → r.answer ≡ Renumbered s → length (held l s r).gates ≤ length O.gates
+  pub no_more_gates : (r : C.Outcome) → r ≡ C.outcome l → (s : Summary) → r.answer ≡ Ok s → length (held l s r).gates ≤ length O.gates
   no_more_gates = passing.no_more O ordered trim hash fold lists o left filled l lends
 
   -- where renumbering succeeds, its next states and roots keep their values, and its latches their first values
-  pub values_kept : (r : C.Outcome) → r ≡ C.outcome l → (s : Summary) → r.answer ≡ Renumbered s → Keeps O (held l s r)
+  pub values_kept : (r : C.Outcome) → r ≡ C.outcome l → (s : Summary) → r.answer ≡ Ok s → Keeps O (held l s r)
   values_kept = passing.keeps O ordered trim hash fold lists o left filled l lends
 
   -- and the gates of the result are in order
-  pub result_in_order : (r : C.Outcome) → r ≡ C.outcome l → (s : Summary) → r.answer ≡ Renumbered s
+  pub result_in_order : (r : C.Outcome) → r ≡ C.outcome l → (s : Summary) → r.answer ≡ Ok s
       → InOrder (sources_of (held l s r)) (held l s r).gates
   result_in_order = passing.in_order O ordered trim hash fold lists o left filled l lends
 
 -- what renumbering leaves after a success is well ordered, whatever was lent
-pub result_well_ordered : (l : Lent) (s : Summary) → (C.outcome l).answer ≡ Renumbered s → WellOrdered (held l s (C.outcome l))
+pub result_well_ordered : (l : Lent) (s : Summary) → (C.outcome l).answer ≡ Ok s → WellOrdered (held l s (C.outcome l))
 result_well_ordered = passing.result
 
 -- with trim, hash and fold off a well ordered circuit comes out of renumbering as it went in

@@ -1,6 +1,5 @@
 -- Whether what is lent is an ordered circuit: checks 1, 2, 4, 22 and 23, in this order, and what they answer. Assumes nothing.
-use Rattle.std.specs.Prelude.{ℕ, ◌+◌, ◌*◌, ◌%◌, Bool, cond, not, ◌||◌, List, [], ◌∷◌, ◌++◌, eqb, leb, ltb, length, get_or}
-use Rattle.std.proofs.Math.Option.{Option, none, some}
+use Rattle.std.specs.Prelude.{ℕ, ◌+◌, ◌*◌, ◌%◌, Bool, cond, not, ◌||◌, List, [], ◌∷◌, ◌++◌, eqb, leb, ltb, length, get_or, Option, Some, None, Result, Ok, Err}
 use Rattle.lit.specs.Code.{literal}
 use Rattle.lit.specs.declared.Lit.{Lit}
 use Rattle.circuit.specs.Walk.{Pair, first_code}
@@ -8,13 +7,16 @@ use Rattle.circuit.specs.Circuit.{first_over, first_stray}
 use Rattle.circuit.specs.Ordered.{Ordered, sources_of}
 use Rattle.circuit.specs.Outcome.{limit, total, pairs_of, pair_words}
 use Rattle.circuit.specs.Resets.{side_by_side}
-use Rattle.checks.specs.declared.Found.{Found}
-use Rattle.checks.specs.declared.Found.TheVariants.{Literal, Nothing}
 use Rattle.ordered.specs.declared.given.Fault.{Fault}
 use Rattle.ordered.specs.declared.given.Fault.TheVariants.{TooBig, Misshapen, Over, Reset, Disordered, Short}
-use Rattle.ordered.specs.declared.given.Checked.{Checked}
-use Rattle.ordered.specs.declared.given.Checked.TheVariants.{Fits, Faulty}
 use Rattle.ordered.specs.WellOrdered.{variables_of, latches_of}
+
+-- what the checks answer: that the circuit fits, or a fault
+abbrev pub Checked : Type 0
+Checked = Result (Unit {0}) Fault
+
+abbrev pub fits : Checked
+fits = Ok tt
 
 -- the number of a fault
 abbrev pub fault_number : Fault → ℕ
@@ -91,26 +93,26 @@ breaks_order code p = leb code p.larger || ltb p.larger p.smaller
 
 -- the code of the first gate that is not in order; the first of the list has the code t
 abbrev pub first_disordered : ℕ → List Pair → Option ℕ
-first_disordered t [] = none
-first_disordered t (p ∷ ps) = cond (breaks_order t p) (some t) (first_disordered (t + 2) ps)
+first_disordered t [] = None
+first_disordered t (p ∷ ps) = cond (breaks_order t p) (Some t) (first_disordered (t + 2) ps)
 
 -- a check that found a code answers it; else what comes after
 abbrev pub fault_at : Option ℕ → (Lit → Fault) → Checked → Checked
-fault_at (some c) why after = Faulty (why (literal c))
-fault_at none why after = after
+fault_at (Some c) why after = Err (why (literal c))
+fault_at None why after = after
 
 -- what checks 4, 22 and 23 found, as the code holds it: the first of them that found something
-abbrev pub first_fault : Found → Found → Found → Checked
-first_fault (Literal l) stray loose = Faulty (Over l)
-first_fault Nothing (Literal l) loose = Faulty (Reset l)
-first_fault Nothing Nothing (Literal l) = Faulty (Disordered l)
-first_fault Nothing Nothing Nothing = Fits
+abbrev pub first_fault : Option Lit → Option Lit → Option Lit → Checked
+first_fault (Some l) stray loose = Err (Over l)
+first_fault None (Some l) loose = Err (Reset l)
+first_fault None None (Some l) = Err (Disordered l)
+first_fault None None None = fits
 
 -- the checks in their order
 unfoldable pub checked : Words → ℕ → Checked
 checked w asked =
-    cond (too_large (variables_of (circuit_in w)) (length w.roots) (length w.sizes)) (Faulty TooBig)
-    (cond (uneven_in w) (Faulty Misshapen)
+    cond (too_large (variables_of (circuit_in w)) (length w.roots) (length w.sizes)) (Err TooBig)
+    (cond (uneven_in w) (Err Misshapen)
     (fault_at (first_over (2 * variables_of (circuit_in w) + 1) (codes_in w asked)) Over
     (fault_at (first_stray (latches_of (circuit_in w)) w.resets) Reset
-    (fault_at (first_disordered (first_code (sources_of (circuit_in w))) (circuit_in w).gates) Disordered Fits))))
+    (fault_at (first_disordered (first_code (sources_of (circuit_in w))) (circuit_in w).gates) Disordered fits))))

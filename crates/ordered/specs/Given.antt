@@ -1,15 +1,13 @@
 -- What the answers to an ordered circuit say: what is true of it where it fits, and where a check refuses it. Assumes nothing.
-use Rattle.std.specs.Prelude.{ℕ, ◌+◌, ◌*◌, ◌/◌, ◌%◌, ◌<◌, ◌≤◌, ◌≡◌, List, [], ◌∷◌, length, get_or}
+use Rattle.std.specs.Prelude.{ℕ, ◌+◌, ◌*◌, ◌/◌, ◌%◌, ◌<◌, ◌≤◌, ◌≡◌, List, [], ◌∷◌, length, get_or, Ok, Err}
 use Rattle.circuit.specs.Graph.{In}
 use Rattle.circuit.specs.Walk.{Pair, first_code}
 use Rattle.circuit.specs.Ordered.{sources_of, no_pair}
 use Rattle.circuit.specs.Outcome.{limit, total}
 use Rattle.circuit.specs.Claims.{AllWithin, AllReset, FirstOver, FirstStray}
 use Rattle.ordered.specs.declared.given.Fault.TheVariants.{TooBig, Misshapen, Over, Reset, Disordered, Short}
-use Rattle.ordered.specs.declared.given.Checked.{Checked}
-use Rattle.ordered.specs.declared.given.Checked.TheVariants.{Fits, Faulty}
 use Rattle.ordered.specs.WellOrdered.{variables_of, latches_of, WellOrdered}
-use Rattle.ordered.specs.Check.{Words, circuit_in, codes_in}
+use Rattle.ordered.specs.Check.{Checked, Words, circuit_in, codes_in}
 
 -- an ordered circuit is lent: it is well ordered, there are not too many justice sets, their sizes sum to the fifth count, and no word of gates is left over
 pub record Given (w : Words) : Type 0 where
@@ -45,14 +43,14 @@ pub record FirstLoose (t : ℕ) (gates : List Pair) (d : ℕ) : Type 0 where
 
 -- what is true where a circuit is answered so, with the code that is asked: the checks before are passed, and this one is not. 3 is a caller's answer
 abbrev pub Says : Words → ℕ → Checked → Type 0
-Says w asked Fits = Given w × (asked ≤ 2 * variables_of (circuit_in w) + 1)
-Says w asked (Faulty TooBig) = (n : ℕ) × In n (limited w) × (limit < n)
-Says w asked (Faulty Misshapen) = AllWithin limit (limited w) × (Even w → ⊥)
-Says w asked (Faulty (Over d)) = AllWithin limit (limited w) × Even w × FirstOver (2 * variables_of (circuit_in w) + 1) (codes_in w asked) d.0
-Says w asked (Faulty (Reset d)) =
+Says w asked (Ok t) = Given w × (asked ≤ 2 * variables_of (circuit_in w) + 1)
+Says w asked (Err TooBig) = (n : ℕ) × In n (limited w) × (limit < n)
+Says w asked (Err Misshapen) = AllWithin limit (limited w) × (Even w → ⊥)
+Says w asked (Err (Over d)) = AllWithin limit (limited w) × Even w × FirstOver (2 * variables_of (circuit_in w) + 1) (codes_in w asked) d.0
+Says w asked (Err (Reset d)) =
     AllWithin limit (limited w) × Even w × AllWithin (2 * variables_of (circuit_in w) + 1) (codes_in w asked)
     × FirstStray (latches_of (circuit_in w)) w.resets d.0
-Says w asked (Faulty (Disordered d)) =
+Says w asked (Err (Disordered d)) =
     AllWithin limit (limited w) × Even w × AllWithin (2 * variables_of (circuit_in w) + 1) (codes_in w asked)
     × AllReset (latches_of (circuit_in w)) w.resets × FirstLoose (first_code (sources_of (circuit_in w))) (circuit_in w).gates d.0
-Says w asked (Faulty Short) = ⊥
+Says w asked (Err Short) = ⊥

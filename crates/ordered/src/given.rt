@@ -1,5 +1,5 @@
 // Whether what is lent is an ordered circuit. Each function that is given one asks this first.
-ghost use Rattle.std.specs.Prelude.{◌≡◌, ◌+◌, ◌*◌, ◌≤◌, length};
+ghost use Rattle.std.specs.Prelude.{◌≡◌, ◌+◌, ◌*◌, ◌≤◌, length, None};
 ghost use Rattle.circuit.specs.Circuit.{first_over, first_stray};
 ghost use Rattle.circuit.specs.Ordered.{count_from};
 ghost use Rattle.circuit.specs.Outcome.{limit, total, pairs_of};
@@ -7,7 +7,7 @@ ghost use Rattle.circuit.specs.Resets.{side_by_side};
 ghost use Rattle.checks.specs.Checks.{found};
 ghost use Rattle.ordered.specs.Check.{fault_number, fault_literal, too_large, uneven, codes_of, breaks_order, first_disordered, first_fault, checked};
 
-use checks::{Found, over_in, sum};
+use checks::{over_in, sum};
 use circuit::LIMIT;
 use lent::words::{counted, is_reset, wide};
 use lit::Lit;
@@ -30,23 +30,19 @@ pub enum Fault {
     Short,
 }
 
-#[derive(Clone, Copy)]
-pub enum Checked {
-    Fits,
-    Faulty(Fault),
-}
-
 // The fault's number.
-pub fn fault_number(why: Fault) -> u32
-    ensures { result ≡ fault_number why }
-{
-    match why {
-        Fault::TooBig => 1,
-        Fault::Misshapen => 2,
-        Fault::Over(_) => 4,
-        Fault::Reset(_) => 22,
-        Fault::Disordered(_) => 23,
-        Fault::Short => 3,
+impl From<Fault> for u32 {
+    ghost from_gives = { λ why n. n ≡ fault_number why };
+
+    fn from(why: Fault) -> u32 {
+        match why {
+            Fault::TooBig => 1,
+            Fault::Misshapen => 2,
+            Fault::Over(_) => 4,
+            Fault::Reset(_) => 22,
+            Fault::Disordered(_) => 23,
+            Fault::Short => 3,
+        }
     }
 }
 
@@ -65,16 +61,11 @@ pub fn fault_literal(why: Fault) -> u32
 }
 
 // Check 1.
+#[tactic(auto, unfolding(crate::specs::Check::too_large))]
 fn is_too_large(variables: usize, roots: usize, sets: usize) -> bool
     ensures { result ≡ too_large variables roots sets }
 {
-    if LIMIT < variables {
-        return true;
-    }
-    if LIMIT < roots {
-        return true;
-    }
-    LIMIT < sets
+    LIMIT < variables || LIMIT < roots || LIMIT < sets
 }
 
 // The sum of the sizes, so few that it fits.
@@ -83,15 +74,14 @@ fn sum_of(sizes: &[u32]) -> usize
     ensures { result ≡ total sizes.now }
 {
     let mut sum: usize = 0;
-    let mut i: usize = 0;
-    while i < sizes.len() {
-        sum += counted(sizes[i]);
-        i += 1;
+    for &size in sizes {
+        sum += counted(size);
     }
     sum
 }
 
 // Check 2, where check 1 has passed.
+#[tactic(auto, unfolding(crate::specs::Check::uneven))]
 fn is_uneven(
     counts: [u32; 5],
     roots: usize,
@@ -103,49 +93,28 @@ fn is_uneven(
     requires { length sizes.now ≤ limit }
     ensures { result ≡ uneven counts roots sizes.now nexts resets words }
 {
-    if sum(counts) != roots {
-        return true;
-    }
-    if sum_of(sizes) != wide(counts[4]) {
-        return true;
-    }
-    if nexts != resets {
-        return true;
-    }
-    words % 2 != 0
+    sum(counts) != roots || sum_of(sizes) != wide(counts[4]) || nexts != resets || words % 2 != 0
 }
 
 // Check 4 of the gates, where it is known which is the first that is not in order: the codes of gates that are in order are not looked at.
-fn over_in_gates(bound: usize, gates: &[u32], loose: Found) -> Found
-    requires { loose ≡ Found.Nothing → Found.Nothing ≡ found (first_over bound gates.now) }
+fn over_in_gates(bound: usize, gates: &[u32], loose: Option<Lit>) -> Option<Lit>
+    requires { loose ≡ None → None ≡ found (first_over bound gates.now) }
     ensures { result ≡ found (first_over bound gates.now) }
 {
-    match loose {
-        Found::Nothing => Found::Nothing,
-        Found::Literal(_gate) => over_in(gates, bound),
-    }
+    loose.and_then(|_gate| over_in(gates, bound))
 }
 
-// Check 4 of the latches, each by its next state and then its reset; a next state that has no reset is not looked at.
-fn over_in_latches(nexts: &[u32], resets: &[u32], bound: usize) -> Found
+// Check 4 of the latches, each by its next state and then its reset; a next state that has no reset is not looked at. `checks::over_in_latches` looks at
+// three lists; what the two do at a latch is `over_in`, and only the zip is left to each.
+fn over_in_latches(nexts: &[u32], resets: &[u32], bound: usize) -> Option<Lit>
     ensures { result ≡ found (first_over bound (side_by_side nexts.now resets.now)) }
 {
-    let mut i = 0;
-    while i < nexts.len() {
-        if resets.len() <= i {
-            return Found::Nothing;
+    for (&next, &reset) in nexts.iter().zip(resets) {
+        if let Some(lit) = over_in(&[next, reset], bound) {
+            return Some(lit);
         }
-        let next = nexts[i];
-        if bound < wide(next) {
-            return Found::Literal(Lit::from_code(next));
-        }
-        let reset = resets[i];
-        if bound < wide(reset) {
-            return Found::Literal(Lit::from_code(reset));
-        }
-        i += 1;
     }
-    Found::Nothing
+    None
 }
 
 // Check 4.
@@ -156,86 +125,68 @@ fn over(
     resets: &[u32],
     roots: &[u32],
     asked: Lit,
-    loose: Found,
-) -> Found
-    requires { loose ≡ Found.Nothing → Found.Nothing ≡ found (first_over bound gates.now) }
+    loose: Option<Lit>,
+) -> Option<Lit>
+    requires { loose ≡ None → None ≡ found (first_over bound gates.now) }
     ensures { result ≡ found (first_over bound (codes_of gates.now nexts.now resets.now roots.now asked.0)) }
 {
-    let first = over_in_gates(bound, gates, loose);
-    if let Found::Literal(_) = first {
-        return first;
-    }
-    let first = over_in_latches(nexts, resets, bound);
-    if let Found::Literal(_) = first {
-        return first;
-    }
-    let first = over_in(roots, bound);
-    if let Found::Literal(_) = first {
-        return first;
-    }
-    if bound < wide(asked.code()) {
-        return Found::Literal(asked);
-    }
-    Found::Nothing
+    over_in_gates(bound, gates, loose)
+        .or_else(|| over_in_latches(nexts, resets, bound))
+        .or_else(|| over_in(roots, bound))
+        .or_else(|| (bound < wide(asked.code())).then_some(asked))
 }
 
-// Check 22, the first latch having the literal t.
-fn first_stray(t: usize, resets: &[u32]) -> Found
+// Check 22, the first latch having the literal t. `checks::first_stray` is given the latches' literals as a list; here they are counted, and a closure for
+// them would be no plainer: each contract would have to say what it answers at each place.
+fn first_stray(t: usize, resets: &[u32]) -> Option<Lit>
     requires { t + 2 * length resets.now ≤ 4294967295 }
     ensures { result ≡ found (first_stray (count_from t (length resets.now)) resets.now) }
 {
-    let mut j: usize = 0;
-    while j < resets.len() {
-        let reset = resets[j];
+    for (j, &reset) in resets.iter().enumerate() {
         if !is_reset((t + 2 * j) as u32, reset) {
-            return Found::Literal(Lit::from_code(reset));
+            return Some(Lit::from_code(reset));
         }
-        j += 1;
     }
-    Found::Nothing
+    None
 }
 
 // Check 23 of one gate.
 fn breaks_order(code: usize, first: u32, second: u32) -> bool
     ensures { result ≡ breaks_order code (record { larger = first; smaller = second }) }
 {
-    if code <= wide(first) {
-        return true;
-    }
-    first < second
+    code <= wide(first) || first < second
 }
 
 // Check 23, the first gate having the code t.
-fn first_disordered(t: usize, gates: &[u32]) -> Found
+#[tactic(auto, using(crate::proofs::Checks::pairs_drop, crate::proofs::Checks::pairs_past))]
+fn first_disordered(t: usize, gates: &[u32]) -> Option<Lit>
     requires { t + length gates.now ≤ 4294967295 }
     ensures { result ≡ found (first_disordered t (pairs_of gates.now)) }
 {
-    let g = gates.len() / 2;
-    let mut j: usize = 0;
-    while j < g {
+    // By index: tried over chunks of two with their numbers, and the proof of a turn did not close.
+    for j in 0..gates.len() / 2 {
         let code = t + 2 * j;
         if breaks_order(code, gates[2 * j], gates[2 * j + 1]) {
-            return Found::Literal(Lit::from_code(code as u32));
+            return Some(Lit::from_code(code as u32));
         }
-        j += 1;
     }
-    Found::Nothing
+    None
 }
 
 // What checks 4, 22 and 23 found: the first of them that found something.
-fn told(large: Found, stray: Found, loose: Found) -> Checked
+fn told(large: Option<Lit>, stray: Option<Lit>, loose: Option<Lit>) -> Result<(), Fault>
     ensures { result ≡ first_fault large stray loose }
 {
-    match large {
-        Found::Literal(lit) => Checked::Faulty(Fault::Over(lit)),
-        Found::Nothing => match stray {
-            Found::Literal(reset) => Checked::Faulty(Fault::Reset(reset)),
-            Found::Nothing => match loose {
-                Found::Literal(gate) => Checked::Faulty(Fault::Disordered(gate)),
-                Found::Nothing => Checked::Fits,
-            },
-        },
+    if let Some(lit) = large {
+        return Err(Fault::Over(lit));
     }
+    if let Some(reset) = stray {
+        return Err(Fault::Reset(reset));
+    }
+    if let Some(gate) = loose {
+        return Err(Fault::Disordered(gate));
+    }
+    Ok(())
 }
 
 // Whether an ordered circuit is lent, and the code that is asked is one of its codes; 0 where none is asked. 1 for I, L, G, R, V = I + L + G or the number
@@ -243,6 +194,7 @@ fn told(large: Found, stray: Found, loose: Found) -> Checked
 // an odd number of gate words; 4 for the first code over 2V + 1: gate by gate, latch by latch the next state and the reset, roots, the code asked; 22 for the
 // first reset that is not 0, 1 or its latch's literal; 23 for the first gate whose code is not above its first input, or whose first input is below its
 // second. In this order.
+#[tactic(auto, unfolding(crate::specs::Check::checked))]
 pub fn check(
     o: Shape,
     nexts: &[u32],
@@ -251,7 +203,7 @@ pub fn check(
     sizes: &[u32],
     roots: &[u32],
     asked: Lit,
-) -> Checked
+) -> Result<(), Fault>
     ensures { result ≡ checked (record {
       inputs = o.inputs;
       counts = o.counts;
@@ -265,7 +217,7 @@ pub fn check(
     let sources = wide(o.inputs) + nexts.len();
     let variables = sources + gates.len() / 2;
     if is_too_large(variables, roots.len(), sizes.len()) {
-        return Checked::Faulty(Fault::TooBig);
+        return Err(Fault::TooBig);
     }
     let counts = o.counts;
     if is_uneven(
@@ -276,7 +228,7 @@ pub fn check(
         resets.len(),
         gates.len(),
     ) {
-        return Checked::Faulty(Fault::Misshapen);
+        return Err(Fault::Misshapen);
     }
     let loose = first_disordered(2 * (sources + 1), gates);
     let large = over(2 * variables + 1, gates, nexts, resets, roots, asked, loose);

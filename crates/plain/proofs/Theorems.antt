@@ -54,16 +54,16 @@ pub one_delta_after : Determines 1 delta-after-kinds.ps delta-after-kinds.r delt
 one_delta_after κs a x y e f p q = p ∙ sym q
 
 pub one_renumber_two :
-    DeterminesCells 12 renumber-two-kinds.ps renumber-two-kinds.r renumber-two-promise.Learnt
+    DeterminesCells 4 renumber-two-kinds.ps renumber-two-kinds.r renumber-two-promise.Learnt
     {A = List ℕ × List ℕ × List ℕ × List ℕ × List ℕ × List ℕ × List ℕ}
     (λ κs e. (
-      e.1.1.1.1.1.1.1.0.now,
-      e.1.1.1.1.1.1.1.1.0.now,
-      e.1.1.1.1.1.1.1.1.1.0.now,
-      e.1.1.1.1.1.1.1.1.1.1.0.now,
-      e.1.1.1.1.1.1.1.1.1.1.1.0.now,
-      e.1.1.1.1.1.1.1.1.1.1.1.1.0.now,
-      e.1.1.1.1.1.1.1.1.1.1.1.1.1.0.now,
+      e.1.1.1.0.0.now,
+      e.1.1.1.0.1.0.now,
+      e.1.1.1.0.1.1.0.now,
+      e.1.1.1.0.1.1.1.0.now,
+      e.1.1.1.0.1.1.1.1.0.now,
+      e.1.1.1.0.1.1.1.1.1.0.now,
+      e.1.1.1.1.0.now,
     ))
 one_renumber_two κs a x y e f p q = (
   ap (λ (o : FlatOutcome). o.outcome.answer) (p ∙ sym q),

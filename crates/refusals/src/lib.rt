@@ -8,7 +8,8 @@ ghost use Rattle.circuit.specs.Refusals.{refusal_number, refusal_literal};
 use circuit::Refusal;
 use lit::Lit;
 
-// The refusal's number.
+// The refusal's number. A function and not `From`, which would have to stand in circuit, beside the definitions that it is proved against: a wrong
+// definition would then be refused by the code alone, and no longer be a trial of circuit's theorems.
 pub fn number(why: Refusal) -> u32
     ensures { result ≡ refusal_number why }
 {
@@ -29,16 +30,13 @@ pub fn number(why: Refusal) -> u32
 pub fn literal(why: Refusal) -> Lit
     ensures { result ≡ refusal_literal why }
 {
-    let none = Lit::from_code(0);
     match why {
-        Refusal::TooBig => none,
-        Refusal::Misshapen => none,
-        Refusal::Short => none,
-        Refusal::Over(l) => l,
-        Refusal::Reset(l) => l,
-        Refusal::Again(l) => l,
-        Refusal::StateAgain(l) => l,
-        Refusal::Undefined(l) => l,
-        Refusal::Cycle(l) => l,
+        Refusal::TooBig | Refusal::Misshapen | Refusal::Short => Lit::from_code(0),
+        Refusal::Over(l)
+        | Refusal::Reset(l)
+        | Refusal::Again(l)
+        | Refusal::StateAgain(l)
+        | Refusal::Undefined(l)
+        | Refusal::Cycle(l) => l,
     }
 }

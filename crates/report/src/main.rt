@@ -4,48 +4,33 @@
 #![tactic(auto)]
 
 ghost use Rattle.std.specs.Prelude.{◌≡◌, ◌≤◌, length, take};
+ghost use Rattle.std.specs.Io.{ReadsAtMost};
 ghost use Rattle.sheet.specs.Report.{report_of};
-ghost use Rattle.report.specs.Input.{Within};
 
 use std::io;
 use std::io::{Read, Stdin};
 
-// What reading came to: as many bytes, at the front of the room, or a read that failed.
-#[derive(Clone, Copy)]
-enum Input {
-    Bytes(usize),
-    Unread,
-}
-
-// Room for the longest sheet and a byte.
-fn sheet_room() -> [u8; 60001]
-    ensures { 60001 ≡ length result }
+// Room for so many bytes.
+fn room<const N: usize>() -> [u8; N]
+    ensures { length result ≡ N }
 {
-    [0; 60001]
+    [0; N]
 }
 
-// Room for every report.
-fn report_room() -> [u8; 131072]
-    ensures { 131072 ≡ length result }
-{
-    [0; 131072]
-}
-
-// Reads until the room is full or the input ends.
-fn read(mut from: Stdin, room: &mut [u8]) -> Input
-    ensures { Within result room.new }
+// Reads until the room is full or the input ends, and answers how many bytes stand at the front of the room. A `while`, since a read may give any
+// number of bytes: std's own loop over reads, `read_exact`, refuses an input that ends before the room is full.
+fn read(mut from: Stdin, room: &mut [u8]) -> io::Result<usize>
+    ensures { ReadsAtMost result room.new }
 {
     let mut done: usize = 0;
     while done < room.len() {
-        let Ok(more) = from.read(&mut room[done..]) else {
-            return Input::Unread;
-        };
+        let more = from.read(&mut room[done..])?;
         if more == 0 {
-            return Input::Bytes(done);
+            return Ok(done);
         }
         done += more;
     }
-    Input::Bytes(done)
+    Ok(done)
 }
 
 // The report on the first n bytes of the room, whole, at the front of the lent bytes; its length.
@@ -58,11 +43,13 @@ fn answer(sheet: &[u8], n: usize, out: &mut [u8]) -> usize
 }
 
 fn main(rt: HostRuntime) -> io::Result<()> {
-    let mut sheet = sheet_room();
-    let Input::Bytes(n) = read(rt.stdin(), &mut sheet) else {
+    // room for the longest sheet and a byte
+    let mut sheet: [u8; 60001] = room();
+    let Ok(n) = read(rt.stdin(), &mut sheet) else {
         return Ok(());
     };
-    let mut out = report_room();
+    // room for every report
+    let mut out: [u8; 131072] = room();
     let length = answer(&sheet, n, &mut out);
     rt.write_all(&out[..length])
 }

@@ -1,6 +1,5 @@
 -- What a solver is asked of a file: its roots by their kinds, runs of its circuit, and the verdicts on them, in the words of the AIGER 1.9 paper. Assumes nothing.
-use Rattle.std.specs.Prelude.{ℕ, suc, ◌-◌, ◌<◌, ◌≤◌, ◌≡◌, Bool, true, cond, List, ltb, length, get_or, take, drop}
-use Rattle.std.proofs.Math.Option.{Option, none, some}
+use Rattle.std.specs.Prelude.{ℕ, suc, ◌-◌, ◌<◌, ◌≤◌, ◌≡◌, Bool, true, cond, List, ltb, length, get_or, take, drop, Option, Some, None}
 use Rattle.circuit.specs.Graph.{Graph, Means}
 use Rattle.circuit.specs.Ordered.{ordered_graph}
 use Rattle.circuit.specs.Outcome.{total}
@@ -52,8 +51,8 @@ Has f inputs latches c b = Means (graph_of f) (setting f.ordered.inputs inputs l
 
 -- the first value of a latch, 0, 1 or free, allows it to begin with the bit b
 abbrev pub Allows : Option Bool → Bool → Type 0
-Allows none b = Unit {0}
-Allows (some v) b = b ≡ v
+Allows None b = Unit {0}
+Allows (Some v) b = b ≡ v
 
 -- a run: bits of the inputs and of the latches at every step. It begins in a state that the resets allow, and each latch has at the next step the bit that its
 -- next state has at this one

@@ -3,6 +3,7 @@
 use Prim.Native.Nat.{ℕ, ◌+◌, ◌-◌, ◌≤◌, ◌<◌, min}
 use mathlib.Core.Path.{◌≡◌, refl, sym, ap, ◌∙◌}
 use mathlib.Core.Bool.{Bool, true, false, cond}
+use mathlib.Core.Logic.{◌⊎◌, inl, inr}
 use mathlib.Core.List.{List, [], ◌∷◌, ◌++◌}
 use native.Mathlib.Numerals.{add-one}
 use native.Mathlib.Omega.{arith, min_cases}
@@ -10,13 +11,21 @@ use lib.Dec.{eqb}
 use lib.ListN.{length, get_or, take, drop, length-append, length-take, length-drop, drop_of_length-le}
 use lib.Seq.{drop-cons, take_all, take-append-add}
 use borrow.Author.Tests.{eq-eqb, ne_eqb}
+use Rattle.std.proofs.lemmas.List.{nil_from_length}
 use Rattle.token.specs.Format.{digits_of}
-use Rattle.place.specs.Place.{last, further}
-use Rattle.text.specs.Put.{put_all}
-use Rattle.text.proofs.Puts.{Onward, onward_all, onward, onward_none}
+use Rattle.place.specs.Place.{last}
+use Rattle.place.proofs.Theorems.{further_none}
+use Rattle.text.specs.Put.{Puts}
+use Rattle.text.proofs.Puts.{Onward, onward_all, onward, onward-last, onward_none}
 use Rattle.lines.specs.declared.Header.{Header}
 use Rattle.lines.specs.Sections.{Roots, first_roots}
-use Rattle.sections.specs.Bytes.{row_bytes, lines_bytes, reset_bytes, latch_bytes, latches_bytes, kept_before, up_to_last, optional, counts_of, roots_bytes}
+use Rattle.sections.specs.Bytes.{row_bytes, lines_bytes, count_bytes, reset_bytes, latch_bytes, latches_bytes, kept_before, up_to_last, optional, counts_of, roots_bytes}
+
+-- one text behind another
+pub puts_then : (out : List ℕ) (at : ℕ) (bs cs : List ℕ) {mid out' : List ℕ} {place place' : ℕ} → length out ≤ last → Puts out at bs mid place
+    → Puts mid place cs out' place' → Puts out at (bs ++ cs) out' place'
+puts_then out at bs cs {mid} {out'} {place} {place'} short p q =
+    onward-last (onward (onward_all out at (bs ++ cs)) bs cs refl mid place short p.0 p.1) out' place' q.0 q.1
 
 -- a row from a place on: its next one and the rest, or nothing at its end
 
@@ -38,7 +47,7 @@ rowing_none each out at vs h = record { inside = omega arith; there = h; left = 
 
 module _ {each : ℕ → List ℕ} {out₀ : List ℕ} {at : ℕ} {vs out : List ℕ} {i place : ℕ} (p : Rowing each out₀ at vs out i place) where
   pub rowing_more : (out' : List ℕ) (place' : ℕ) → i < length vs → length out₀ ≤ last
-      → (out' ≡ put_all out place (each (get_or vs i 0))) × (place' ≡ further place (length (each (get_or vs i 0))))
+      → Puts out place (each (get_or vs i 0)) out' place'
       → Rowing each out₀ at vs out' (i + 1) place'
   rowing_more out' place' there short put =
       record {
@@ -47,62 +56,58 @@ module _ {each : ℕ → List ℕ} {out₀ : List ℕ} {at : ℕ} {vs out : List
         left = onward p.left (each (get_or vs i 0)) (row_bytes each (drop (i + 1) vs)) (row_next each vs i there) out' place' short put.0 put.1;
       }
 
-  pub rowing_all : length vs ≤ i → (out ≡ put_all out₀ at (row_bytes each vs)) × (place ≡ further at (length (row_bytes each vs)))
+  pub rowing_all : length vs ≤ i → Puts out₀ at (row_bytes each vs) out place
   rowing_all end = onward_none p.left (row_end each vs i end) p.there
+
+pub ruleset rowings = (rowing_none, rowing_more, rowing_all)
 
 -- a reset, by whether it is 0
 
-pub reset_some : (r : ℕ) → 0 < r → reset_bytes r ≡ 32 ∷ digits_of r
-unfolding reset_bytes
+pub reset_some : (r : ℕ) → 0 < r → reset_bytes r ≡ count_bytes r
+unfolding reset_bytes count_bytes
 reset_some r h = rw (ne_eqb r 0 (omega arith))
 
 pub reset_none : (r : ℕ) → r ≤ 0 → reset_bytes r ≡ []
 unfolding reset_bytes
 reset_none r h = rw (eq-eqb r 0 (omega arith))
 
--- latch lines from a place on: the next one and the rest, or nothing where a list ends
+pub ruleset resets = (reset_some, reset_none, further_none)
 
-latches_next : (ns rs : List ℕ) (i : ℕ) → i < length ns → i < length rs
-    → latches_bytes (drop i ns) (drop i rs) ≡ latch_bytes (get_or ns i 0) (get_or rs i 0) ++ latches_bytes (drop (i + 1) ns) (drop (i + 1) rs)
-latches_next ns rs i there here =
-    let n : drop i ns ≡ get_or ns i 0 ∷ drop (i + 1) ns = drop-cons ns i 0 there ∙ ap (λ (k : ℕ). get_or ns i 0 ∷ drop k ns) (sym (add-one i)) in
-    let r : drop i rs ≡ get_or rs i 0 ∷ drop (i + 1) rs = drop-cons rs i 0 here ∙ ap (λ (k : ℕ). get_or rs i 0 ∷ drop k rs) (sym (add-one i)) in
-    ap (λ (l : List ℕ). latches_bytes l (drop i rs)) n ∙ ap (latches_bytes (get_or ns i 0 ∷ drop (i + 1) ns)) r
-
-no_resets_lem : (ns : List ℕ) → latches_bytes ns [] ≡ []
-no_resets_lem [] = refl
-no_resets_lem (n ∷ ns) = refl
-
-latches_end_lem : (ns rs : List ℕ) (i : ℕ) → min (length ns) (length rs) ≤ i → latches_bytes (drop i ns) (drop i rs) ≡ []
-latches_end_lem ns rs i end =
-    min_cases (length ns) (length rs) _
-    (λ _ e. ap (λ (l : List ℕ). latches_bytes l (drop i rs)) (drop_of_length-le ns {i = i} (omega arith)))
-    (λ _ e. ap (latches_bytes (drop i ns)) (drop_of_length-le rs {i = i} (omega arith)) ∙ no_resets_lem (drop i ns))
-
--- latch lines are put from a place on: the first i are put, and the next one goes to `place`
-pub record Latching (out₀ : List ℕ) (at : ℕ) (ns rs out : List ℕ) (i place : ℕ) : Type 0 where
-  pub inside : i ≤ min (length ns) (length rs)
+-- latch lines are put from a place on, of next states and resets: `ns` and `rs` are left, and the next line goes to `place`
+pub record Latching (out₀ : List ℕ) (at : ℕ) (nexts resets out ns rs : List ℕ) (place : ℕ) : Type 0 where
   pub there : place ≤ last
-  pub left : Onward out₀ at (latches_bytes ns rs) out place (latches_bytes (drop i ns) (drop i rs))
+  pub left : Onward out₀ at (latches_bytes nexts resets) out place (latches_bytes ns rs)
 
-pub latching_none : (out : List ℕ) (at : ℕ) (ns rs : List ℕ) → at ≤ last → Latching out at ns rs out 0 at
-latching_none out at ns rs h = record { inside = omega arith; there = h; left = onward_all out at (latches_bytes ns rs) }
+pub latching_none : (out : List ℕ) (at : ℕ) (nexts resets ns rs : List ℕ) → at ≤ last → ns ≡ nexts → rs ≡ resets → Latching out at nexts resets out ns rs at
+latching_none out at nexts resets ns rs h e f = record {
+  there = h;
+  left = rw (e, f) (onward_all out at (latches_bytes nexts resets));
+}
 
-module _ {out₀ : List ℕ} {at : ℕ} {ns rs out : List ℕ} {i place : ℕ} (p : Latching out₀ at ns rs out i place) where
-  pub latching_more : (out' : List ℕ) (place' : ℕ) → i < min (length ns) (length rs) → length out₀ ≤ last
-      → (out' ≡ put_all out place (latch_bytes (get_or ns i 0) (get_or rs i 0))) × (place' ≡ further place (length (latch_bytes (get_or ns i 0) (get_or rs i 0))))
-      → Latching out₀ at ns rs out' (i + 1) place'
-  latching_more out' place' there short put =
+module _ {out₀ : List ℕ} {at : ℕ} {nexts resets out ns rs : List ℕ} {place : ℕ} (p : Latching out₀ at nexts resets out ns rs place) where
+  pub latching_more : (next reset : ℕ) (ns' rs' out' : List ℕ) (place' : ℕ) → ns ≡ next ∷ ns' → rs ≡ reset ∷ rs' → length out₀ ≤ last
+      → Puts out place (latch_bytes next reset) out' place' → Latching out₀ at nexts resets out' ns' rs' place'
+  latching_more next reset ns' rs' out' place' e f short put =
       record {
-        inside = omega arith;
         there = omega (arith, put.1);
         left =
-            onward p.left (latch_bytes (get_or ns i 0) (get_or rs i 0)) (latches_bytes (drop (i + 1) ns) (drop (i + 1) rs))
-            (latches_next ns rs i (omega arith) (omega arith)) out' place' short put.0 put.1;
+            onward p.left (latch_bytes next reset) (latches_bytes ns' rs') (ap (λ (l : List ℕ). latches_bytes l rs) e ∙ ap (latches_bytes (next ∷ ns')) f) out' place'
+            short put.0 put.1;
       }
 
-  pub latching_all : min (length ns) (length rs) ≤ i → (out ≡ put_all out₀ at (latches_bytes ns rs)) × (place ≡ further at (length (latches_bytes ns rs)))
-  latching_all end = onward_none p.left (latches_end_lem ns rs i end) p.there
+  -- one of the lists has ended
+  pub latching_all : (length ns ≡ 0) ⊎ (length rs ≡ 0) → Puts out₀ at (latches_bytes nexts resets) out place
+  latching_all end = onward_none p.left (ended end) p.there
+    where
+      no_resets_lem : (l : List ℕ) → latches_bytes l [] ≡ []
+      no_resets_lem [] = refl
+      no_resets_lem (n ∷ l) = refl
+
+      ended : (length ns ≡ 0) ⊎ (length rs ≡ 0) → latches_bytes ns rs ≡ []
+      ended (inl e) = ap (λ (l : List ℕ). latches_bytes l rs) (nil_from_length ns e)
+      ended (inr e) = ap (latches_bytes ns) (nil_from_length rs e) ∙ no_resets_lem ns
+
+pub ruleset latchings = (latching_none, latching_more, latching_all)
 
 -- a latch's line has at most the digits of its next state, a space, the digits of its reset, a newline
 pub latch_most : (next reset : ℕ) → length (latch_bytes next reset) ≤ length (digits_of next) + length (digits_of reset) + 2
@@ -141,24 +146,6 @@ counts_front h k e =
 
 pub kept_few : (h : Header) → length (up_to_last (optional h)) ≤ 4
 kept_few h = omega (arith, ap length (up_to_last_front (optional h)), length-take (length (up_to_last (optional h))) (optional h))
-
-module _ (h : Header) where
-  pub kept_4 : 0 < h.fairness → length (up_to_last (optional h)) ≡ 4
-  kept_4 f = rw (ne_eqb h.fairness 0 (omega arith))
-
-  pub kept_3 : h.fairness ≤ 0 → 0 < h.justice → length (up_to_last (optional h)) ≡ 3
-  kept_3 f j = rw (eq-eqb h.fairness 0 (omega arith), ne_eqb h.justice 0 (omega arith))
-
-  pub kept-2 : h.fairness ≤ 0 → h.justice ≤ 0 → 0 < h.constraints → length (up_to_last (optional h)) ≡ 2
-  kept-2 f j c = rw (eq-eqb h.fairness 0 (omega arith), eq-eqb h.justice 0 (omega arith), ne_eqb h.constraints 0 (omega arith))
-
-  pub kept_1 : h.fairness ≤ 0 → h.justice ≤ 0 → h.constraints ≤ 0 → 0 < h.bad → length (up_to_last (optional h)) ≡ 1
-  kept_1 f j c b =
-      rw (eq-eqb h.fairness 0 (omega arith), eq-eqb h.justice 0 (omega arith), eq-eqb h.constraints 0 (omega arith), ne_eqb h.bad 0 (omega arith))
-
-  pub kept_0 : h.fairness ≤ 0 → h.justice ≤ 0 → h.constraints ≤ 0 → h.bad ≤ 0 → length (up_to_last (optional h)) ≡ 0
-  kept_0 f j c b =
-      rw (eq-eqb h.fairness 0 (omega arith), eq-eqb h.justice 0 (omega arith), eq-eqb h.constraints 0 (omega arith), eq-eqb h.bad 0 (omega arith))
 
 -- roots of a kind, where the counts may go past the list
 

@@ -4,7 +4,7 @@ use Prim.Native.Nat.{ℕ, zero, suc, ◌+◌, ◌-◌, ◌*◌, ◌^◌, ◌≤�
 use mathlib.Core.Path.{◌≡◌, refl, sym, ap, ◌∙◌, subst}
 use mathlib.Core.Bool.{Bool, true, false, cond}
 use mathlib.Core.Logic.{inl, inr}
-use mathlib.Core.Option.{none, some}
+use Rattle.std.specs.Prelude.{Some, None}
 use mathlib.Core.List.{List, [], ◌∷◌, ◌++◌, append-nil, append_assoc}
 use native.Mathlib.Omega.{arith}
 use lib.Dec.{eqb}
@@ -74,15 +74,15 @@ latch_spelled most own l low small fits may =
     (at_last (latch_line l.next) l.reset (reset_spelled most own l.reset small (omega arith) may) refl)
 
 -- where no reset of a list is a stray, the first is none, and the others are not
-pub passes : (own r : ℕ) (owns rs : List ℕ) → first_stray (own ∷ owns) (r ∷ rs) ≡ none → (is_reset own r ≡ true) × (first_stray owns rs ≡ none)
+pub passes : (own r : ℕ) (owns rs : List ℕ) → first_stray (own ∷ owns) (r ∷ rs) ≡ None → (is_reset own r ≡ true) × (first_stray owns rs ≡ None)
 passes own r owns rs e = go (is_reset own r) e
   where
-    go : (t : Bool) → cond t (first_stray owns rs) (some r) ≡ none → (t ≡ true) × (first_stray owns rs ≡ none)
+    go : (t : Bool) → cond t (first_stray owns rs) (Some r) ≡ None → (t ≡ true) × (first_stray owns rs ≡ None)
     go true f = (refl, f)
     go false f = absurd (let z : ◌≡◌ {A = ℕ} 0 1 = cc in omega arith)
 
 latches_row : (most first k : ℕ) (ls : List LatchLine) → AllWithin most (nexts_of ls) → AllWithin most (resets_of ls) → most < 2 ^ 64
-    → first_stray (count_from (first + 2 * k) (length ls)) (resets_of ls) ≡ none
+    → first_stray (count_from (first + 2 * k) (length ls)) (resets_of ls) ≡ None
     → Row (λ j. Latch most (first + 2 * j)) k ls (latches_bytes (nexts_of ls) (resets_of ls))
 latches_row most first k [] low small fits pass = refl
 latches_row most first k (l ∷ ls) low small fits pass =
@@ -98,7 +98,7 @@ latches_row most first k (l ∷ ls) low small fits pass =
     )
 
 pub latches_spelled : (most first : ℕ) (ls : List LatchLine) → AllWithin most (nexts_of ls) → AllWithin most (resets_of ls) → most < 2 ^ 64
-    → first_stray (count_from first (length ls)) (resets_of ls) ≡ none
+    → first_stray (count_from first (length ls)) (resets_of ls) ≡ None
     → Latches most first (length ls) ls (latches_bytes (nexts_of ls) (resets_of ls))
 latches_spelled most first ls low small fits pass =
     let zeroth : first + 2 * 0 ≡ first = omega arith in
@@ -119,7 +119,7 @@ resets_back (n ∷ ns) (r ∷ rs) e = ap (λ (l : List ℕ). r ∷ l) (resets_ba
 
 -- lists as long as each other, as a caller has them
 pub lists_spelled : (most first : ℕ) (ns rs : List ℕ) → length rs ≡ length ns → AllWithin most ns → AllWithin most rs → most < 2 ^ 64
-    → first_stray (count_from first (length ns)) rs ≡ none
+    → first_stray (count_from first (length ns)) rs ≡ None
     → Latches most first (length ns) (latch_lines_of ns rs) (latches_bytes ns rs)
 lists_spelled most first ns rs e low small fits pass =
     let ls : List LatchLine = latch_lines_of ns rs in

@@ -3,7 +3,7 @@
 use Prim.Native.Nat.{ℕ, ◌^◌, ◌≤◌, ◌<◌}
 use mathlib.Core.Path.{◌≡◌, sym, ◌∙◌}
 use mathlib.Core.Logic.{◌↔◌}
-use mathlib.Core.Option.{none}
+use Rattle.std.specs.Prelude.{None}
 use mathlib.Core.List.{List, ◌++◌}
 use lib.ListN.{length}
 use Rattle.promise.specs.Determined.{Determines, DeterminesCells}
@@ -37,7 +37,7 @@ use Rattle.sections.proofs.smaller.Reads as smaller-contract
 use Rattle.sections.proofs.put_roots.Kinds as roots-kinds
 use Rattle.sections.proofs.put_roots.Reads as roots-contract
 
--- 1. Each contract determines the place answered and every lent byte afterwards; and which of two numbers is the smaller.
+-- 1. Each contract determines the place answered and every lent byte afterwards.
 
 pub one_put_line : DeterminesCells 1 line-kinds.ps line-kinds.r line-contract.Learnt (λ κs e. e.0.now)
 one_put_line κs a x y e f p q = (p.1 ∙ sym q.1, p.0 ∙ sym q.0)
@@ -69,7 +69,7 @@ pub lines_spelled : (most : ℕ) (vs : List ℕ) → AllWithin most vs → Fit v
 lines_spelled = spelled.lines_spelled
 
 pub latches_spelled : (most first : ℕ) (nexts resets : List ℕ) → length resets ≡ length nexts → AllWithin most nexts → AllWithin most resets → most < 2 ^ 64
-    → first_stray (count_from first (length nexts)) resets ≡ none
+    → first_stray (count_from first (length nexts)) resets ≡ None
     → Latches most first (length nexts) (latch_lines_of nexts resets) (latches_bytes nexts resets)
 latches_spelled = spelled.lists_spelled
 

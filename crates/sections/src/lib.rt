@@ -2,10 +2,8 @@
 // into lent bytes from a place on. What does not fit is not written, and the place after it is answered all the same.
 #![tactic(auto)]
 
-ghost use Rattle.std.specs.Prelude.{◌≡◌, ◌+◌, ◌<◌, min, length};
-ghost use Rattle.place.specs.Place.{further};
-ghost use Rattle.text.specs.Put.{put_all};
-ghost use Rattle.lines.specs.Sections.{first_roots};
+ghost use Rattle.std.specs.Prelude.{◌≡◌, min, length};
+ghost use Rattle.text.specs.Put.{Puts};
 ghost use Rattle.sections.specs.Bytes.{line_bytes, lines_bytes, count_bytes, counts_bytes, reset_bytes, latch_bytes, latches_bytes};
 ghost use Rattle.sections.specs.Bytes.{up_to_last, optional, header_bytes, roots_bytes};
 
@@ -14,62 +12,59 @@ use lines::Header;
 
 // A line with a number; the place after it.
 pub fn put_line(out: &mut [u8], at: usize, v: u32) -> usize
-    ensures { (out.new ≡ put_all out.old at (line_bytes v)) × (result ≡ further at (length (line_bytes v))) }
+    ensures { Puts out.old at (line_bytes v) out.new result }
 {
     let after = text::put_decimal(out, at, v as u64);
     text::put(out, after, b'\n')
 }
 
 // Lines with a number each; the place after them.
+#[tactic(auto, using(crate::proofs::Parts::rowings))]
 pub fn put_lines(out: &mut [u8], at: usize, list: &[u32]) -> usize
-    ensures { (out.new ≡ put_all out.old at (lines_bytes list.now))
-        × (result ≡ further at (length (lines_bytes list.now))) }
+    ensures { Puts out.old at (lines_bytes list.now) out.new result }
 {
-    let mut i: usize = 0;
     let mut place = at;
-    while i < list.len() {
-        place = put_line(out, place, list[i]);
-        i += 1;
+    for v in list {
+        place = put_line(out, place, *v);
     }
     place
 }
 
 // A count of the header, with the space before it; the place after it.
 pub fn put_count(out: &mut [u8], at: usize, v: u32) -> usize
-    ensures { (out.new ≡ put_all out.old at (count_bytes v)) × (result ≡ further at (length (count_bytes v))) }
+    ensures { Puts out.old at (count_bytes v) out.new result }
 {
     let after = text::put(out, at, b' ');
     text::put_decimal(out, after, v as u64)
 }
 
-// Counts of the header; the place after them.
+// Counts of the header; the place after them. But for the writer it is `put_lines`: one function for both would have to say in its contract which bytes
+// the writer puts, by a trait with two empty structs, and would be longer than this one.
+#[tactic(auto, using(crate::proofs::Parts::rowings))]
 fn put_counts(out: &mut [u8], at: usize, list: &[u32]) -> usize
-    ensures { (out.new ≡ put_all out.old at (counts_bytes list.now))
-        × (result ≡ further at (length (counts_bytes list.now))) }
+    ensures { Puts out.old at (counts_bytes list.now) out.new result }
 {
-    let mut i: usize = 0;
     let mut place = at;
-    while i < list.len() {
-        place = put_count(out, place, list[i]);
-        i += 1;
+    for v in list {
+        place = put_count(out, place, *v);
     }
     place
 }
 
 // A latch's reset with the space before it, or nothing where it is 0; the place after it.
+#[tactic(auto, using(crate::proofs::Parts::resets))]
 fn put_reset(out: &mut [u8], at: usize, reset: u32) -> usize
-    ensures { (out.new ≡ put_all out.old at (reset_bytes reset)) × (result ≡ further at (length (reset_bytes reset))) }
+    ensures { Puts out.old at (reset_bytes reset) out.new result }
 {
     if 0 < reset {
-        let digits = text::put(out, at, b' ');
-        return text::put_decimal(out, digits, reset as u64);
+        return put_count(out, at, reset);
     }
     at
 }
 
 // A latch's line: its next state, its reset where that is not 0, a newline; the place after it.
 pub fn put_latch(out: &mut [u8], at: usize, next: u32, reset: u32) -> usize
-    ensures { (out.new ≡ put_all out.old at (latch_bytes next reset)) × (result ≡ further at (length (latch_bytes next reset))) }
+    ensures { Puts out.old at (latch_bytes next reset) out.new result }
 {
     let after_next = text::put_decimal(out, at, next as u64);
     let after_reset = put_reset(out, after_next, reset);
@@ -77,16 +72,13 @@ pub fn put_latch(out: &mut [u8], at: usize, next: u32, reset: u32) -> usize
 }
 
 // Latch lines, of next states and resets side by side, as long as both last; the place after them.
+#[tactic(auto, using(crate::proofs::Parts::latchings))]
 pub fn put_latches(out: &mut [u8], at: usize, nexts: &[u32], resets: &[u32]) -> usize
-    ensures { (out.new ≡ put_all out.old at (latches_bytes nexts.now resets.now))
-        × (result ≡ further at (length (latches_bytes nexts.now resets.now))) }
+    ensures { Puts out.old at (latches_bytes nexts.now resets.now) out.new result }
 {
-    let n = smaller(nexts.len(), resets.len());
-    let mut i: usize = 0;
     let mut place = at;
-    while i < n {
-        place = put_latch(out, place, nexts[i], resets[i]);
-        i += 1;
+    for (next, reset) in nexts.iter().zip(resets) {
+        place = put_latch(out, place, *next, *reset);
     }
     place
 }
@@ -96,24 +88,22 @@ fn option_count(h: Header) -> usize
     ensures { result ≡ length (up_to_last (optional h)) }
 {
     if 0 < h.fairness {
-        return 4;
+        4
+    } else if 0 < h.justice {
+        3
+    } else if 0 < h.constraints {
+        2
+    } else if 0 < h.bad {
+        1
+    } else {
+        0
     }
-    if 0 < h.justice {
-        return 3;
-    }
-    if 0 < h.constraints {
-        return 2;
-    }
-    if 0 < h.bad {
-        return 1;
-    }
-    0
 }
 
 // The header after a tag: M I L O A, of B C J F those up to the last that is not zero, a newline; the place after it.
+#[tactic(auto, using(crate::proofs::Parts::kept_few))]
 pub fn put_header(out: &mut [u8], at: usize, tag: &[u8], h: Header) -> usize
-    ensures { (out.new ≡ put_all out.old at (header_bytes tag.now h))
-        × (result ≡ further at (length (header_bytes tag.now h))) }
+    ensures { Puts out.old at (header_bytes tag.now h) out.new result }
 {
     let row: [u32; 9] = [
         h.top,
@@ -132,32 +122,22 @@ pub fn put_header(out: &mut [u8], at: usize, tag: &[u8], h: Header) -> usize
     text::put(out, after_counts, b'\n')
 }
 
-// The smaller of two numbers.
+// The smaller of two numbers: the library's, under a name that a theorem speaks of (`one_smaller`).
 pub fn smaller(x: usize, y: usize) -> usize
     ensures { result ≡ min x y }
 {
-    if x < y { x } else { y }
-}
-
-// How many roots stand before the justice sizes.
-fn first_roots(h: Header) -> usize
-    ensures { (result ≡ first_roots h) × (result < 17179869184) }
-{
-    counted(h.outputs) + counted(h.bad) + counted(h.constraints)
+    x.min(y)
 }
 
 // The root section, of all roots in the order in which they are walked: outputs, bad states, constraints, fairness, justice literals. In the file the
 // justice sizes and literals stand before fairness. The place after it.
 pub fn put_roots(out: &mut [u8], at: usize, h: Header, sizes: &[u32], roots: &[u32]) -> usize
-    ensures { (out.new ≡ put_all out.old at (roots_bytes h (record {
+    ensures { Puts out.old at (roots_bytes h (record {
       sizes = sizes.now;
       roots = roots.now;
-    }))) × (result ≡ further at (length (roots_bytes h (record {
-      sizes = sizes.now;
-      roots = roots.now;
-    })))) }
+    })) out.new result }
 {
-    let first = first_roots(h);
+    let first = lines::first_roots(h);
     let fair = smaller(first, roots.len());
     let just = smaller(first + counted(h.fairness), roots.len());
     let after_first = put_lines(out, at, &roots[..fair]);

@@ -5,10 +5,10 @@ use mathlib.Core.List.{List, ◌∷◌}
 use native.Mathlib.Omega.{arith}
 use borrow.Author.Tests.{le-ltb, eq-eqb}
 use lib.ListN.{length, take, length-replicate}
+use Rattle.std.specs.Prelude.{Ok, Err}
 use Rattle.circuit.specs.declared.Refusal.{Refusal}
 use Rattle.circuit.specs.declared.Summary.{Summary}
-use Rattle.circuit.specs.declared.Answer.{Answer}
-use Rattle.circuit.specs.declared.Answer.TheVariants.{Renumbered, Refused}
+use Rattle.circuit.specs.Answer.{Answer}
 use Rattle.circuit.specs.declared.CircuitRecord.{CircuitRecord}
 use Rattle.circuit.specs.Circuit.{Circuit, renumber}
 use Rattle.circuit.specs.Ordered.{Ordered, ordered_of}
@@ -77,8 +77,8 @@ module _ (h is ss ns gs rs m n z r g w : List ℕ) (shaped : Shaped h is ss ns g
 
   module _ (m' n' z' r' g' w' : List ℕ) where
     -- a success: the lists hold the ordered circuit
-    module _ (s : Summary) (e : outcome_of (Renumbered s) m' n' z' r' g' w' ≡ outcome lent) where
-      abbrev succeeds : (outcome lent).answer ≡ Renumbered s
+    module _ (s : Summary) (e : outcome_of (Ok s) m' n' z' r' g' w' ≡ outcome lent) where
+      abbrev succeeds : (outcome lent).answer ≡ Ok s
       succeeds = sym (ap (λ (o : Outcome). o.answer) e)
 
       pub made_few_lem : s.made ≤ 1023
@@ -88,13 +88,13 @@ module _ (h is ss ns gs rs m n z r g w : List ℕ) (shaped : Shaped h is ss ns g
       unfolding held text_of
       ordered_text_lem =
           let k = success lent s succeeds in
-          let holds : held lent s (outcome_of (Renumbered s) m' n' z' r' g' w') ≡ ordered_of C k.work = ap (held lent s) e ∙ k.holds in
+          let holds : held lent s (outcome_of (Ok s) m' n' z' r' g' w') ≡ ordered_of C k.work = ap (held lent s) e ∙ k.holds in
           let O : Ordered = ordered_of C k.work in
           ap (λ (x : Ordered). ordered_text s x.inputs x.nexts x.gates x.roots) holds
           ∙ ap (λ (x : Summary). ordered_text x O.inputs O.nexts O.gates O.roots) k.sums
           ∙ ap (out_text C) (sym k.ends ∙ conclusion_of lent fits)
 
-    pub refused_text_lem : (why : Refusal) → outcome_of (Refused why) m' n' z' r' g' w' ≡ outcome lent → refused_text why ≡ out_text C (renumber C)
+    pub refused_text_lem : (why : Refusal) → outcome_of (Err why) m' n' z' r' g' w' ≡ outcome lent → refused_text why ≡ out_text C (renumber C)
     refused_text_lem why e = ap (out_text C) (sym (refusal_from lent why (sym (ap (λ (o : Outcome). o.answer) e))) ∙ conclusion_of lent fits)
 
     -- the same of an answer, a record and resets as the code has them
@@ -109,12 +109,12 @@ module _ (h is ss ns gs rs m n z r g w : List ℕ) (shaped : Shaped h is ss ns g
           ∙ ap (λ (x : CircuitRecord). outcome (lent_of x is ss ns (take (length ss) zs) gs rs m n z r g w)) k
           ∙ ap (λ (x : List ℕ). outcome (lent_of (record_on h) is ss ns x gs rs m n z r g w)) no_reset_lem
 
-      pub given_made : (s : Summary) → a ≡ Renumbered s → s.made ≤ 1023
-      given_made s f = made_few_lem s (same_outcome (Renumbered s) f)
+      pub given_made : (s : Summary) → a ≡ Ok s → s.made ≤ 1023
+      given_made s f = made_few_lem s (same_outcome (Ok s) f)
 
-      pub given_ordered : (s : Summary) → a ≡ Renumbered s
+      pub given_ordered : (s : Summary) → a ≡ Ok s
           → ordered_text s (length is) (take (length ss) n') (pairs_of (take (2 * s.made) g')) (take (length rs) r') ≡ out_text C (renumber C)
-      given_ordered s f = ordered_text_lem s (same_outcome (Renumbered s) f)
+      given_ordered s f = ordered_text_lem s (same_outcome (Ok s) f)
 
-      pub given_refused : (why : Refusal) → a ≡ Refused why → refused_text why ≡ out_text C (renumber C)
-      given_refused why f = refused_text_lem why (same_outcome (Refused why) f)
+      pub given_refused : (why : Refusal) → a ≡ Err why → refused_text why ≡ out_text C (renumber C)
+      given_refused why f = refused_text_lem why (same_outcome (Err why) f)

@@ -1,11 +1,11 @@
 -- A list that is written over another, a cell a turn, and the two halves of a list of latches. Assumes nothing.
-use Prim.Native.Nat.{ℕ, zero, suc, ◌+◌, ◌*◌, ◌/◌, ◌≤◌, ◌<◌}
+use Prim.Native.Nat.{ℕ, zero, suc, ◌+◌, ◌*◌, ◌/◌, ◌<◌}
 use mathlib.Core.Path.{◌≡◌, refl, sym, ap, ◌∙◌}
 use mathlib.Core.List.{List, [], ◌∷◌, ◌++◌}
 use native.Mathlib.Numerals.{add-one}
 use native.Mathlib.Omega.{arith}
 use lib.ListN.{length, get_or, set, take, length-set}
-use lib.Seq.{take-suc, take-suc-set, take_all}
+use lib.Seq.{take-suc, take-suc-set}
 use Rattle.sheet.specs.Circuit.{states_of, nexts_of}
 
 -- the first i cells of `to` are those of `from`, which is as long
@@ -24,9 +24,6 @@ copied_more from to i v c h e =
           ap (λ (k : ℕ). take k (set to i v)) (add-one i) ∙ take-suc-set to i v (omega (arith, c.same)) ∙ ap (λ (l : List ℕ). l ++ (v ∷ [])) c.front
           ∙ ap (λ (x : ℕ). take i from ++ (x ∷ [])) e ∙ sym (take-suc from i 0 h) ∙ ap (λ (k : ℕ). take k from) (sym (add-one i));
     }
-
-pub copied_all : (from to : List ℕ) (i : ℕ) → Copied from to i → length from ≤ i → to ≡ from
-copied_all from to i c h = sym (take_all i to (omega (arith, c.same))) ∙ c.front ∙ take_all i from h
 
 pub states_length : (ws : List ℕ) → length (states_of ws) ≡ length ws / 2
 states_length [] = refl

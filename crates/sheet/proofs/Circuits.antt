@@ -2,7 +2,7 @@
 -- the sheet. Assumes nothing.
 use Prim.Native.Nat.{ℕ, ◌+◌, ◌*◌, ◌-◌, ◌/◌, ◌%◌, ◌≤◌}
 use mathlib.Core.Path.{◌≡◌, refl, sym, ap, ◌∙◌}
-use mathlib.Core.Option.{none, some}
+use Rattle.std.specs.Prelude.{Some, None}
 use mathlib.Core.List.{List, [], ◌∷◌, ◌++◌}
 use native.Mathlib.Omega.{arith}
 use lib.ListN.{length, get_or, take, drop, length-append, length-drop, take-append-drop}
@@ -14,16 +14,15 @@ use Rattle.circuit.specs.Circuit.{Circuit, gate_codes, first_over, renumber}
 use Rattle.circuit.specs.Outcome.{gates_of}
 use Rattle.circuit.specs.Resets.{side_by_side, codes_before, renumber_before}
 use Rattle.circuit.proofs.Resets.{as_before}
-use Rattle.sheet_read.specs.declared.Offender.TheVariants.{Nothing, Over}
 use Rattle.sheet_lines.specs.Lines.{refused_line}
 use Rattle.sheet_read.specs.Sheet.{top_of, input_count, latch_count, gate_count, root_count, code_count}
 use Rattle.sheet.specs.Circuit.{states_of, nexts_of, input_codes, gate_words, latch_words, root_codes, circuit_on, record_on}
 use Rattle.sheet_lines.specs.Text.{refused_text}
 use Rattle.sheet.specs.Report.{out_text}
-use Rattle.sheet_read.specs.Promise.{offender, Taken}
+use Rattle.sheet_read.specs.Promise.{Taken}
 use Rattle.sheet.specs.Promise.{Words, circuit_in, Shaped}
 use Rattle.sheet.proofs.Cells.{states_length, nexts_length}
-use Rattle.sheet_read.proofs.Headers.{none_over, bounds, codes_few, none_found, some_found, five}
+use Rattle.sheet_read.proofs.Headers.{none_over, bounds, codes_few, five}
 
 gate_codes_lem : (ws : List ℕ) → length ws % 3 ≡ 0 → gate_codes (gates_of ws) ≡ ws
 gate_codes_lem [] e = refl
@@ -46,7 +45,7 @@ unfolding circuit_on
 sheet_before h cs = as_before (circuit_on h cs) refl
 
 -- a circuit that check 4 refuses
-over_text : (C : Circuit) (c : ℕ) → first_over (2 * C.top + 1) (codes_before C) ≡ some c → refused_line 4 c ≡ out_text C (renumber_before C)
+over_text : (C : Circuit) (c : ℕ) → first_over (2 * C.top + 1) (codes_before C) ≡ Some c → refused_line 4 c ≡ out_text C (renumber_before C)
 unfolding renumber_before refused_text
 over_text C c e = rw e
 
@@ -141,12 +140,12 @@ module _ (h cs : List ℕ) (taken : Taken h) (all : length cs ≡ code_count h) 
       ∙ take-append-drop (input_count h) cs
 
   -- check 4 on the codes themselves
-  pub codes-over : (c : ℕ) → first_over (2 * top_of h + 1) cs ≡ some c → refused_line 4 c ≡ out_text (circuit_on h cs) (renumber (circuit_on h cs))
+  pub codes-over : (c : ℕ) → first_over (2 * top_of h + 1) cs ≡ Some c → refused_line 4 c ≡ out_text (circuit_on h cs) (renumber (circuit_on h cs))
   unfolding circuit_on
   codes-over c e =
       over_text (circuit_on h cs) c (ap (first_over (2 * top_of h + 1)) codes_are ∙ e) ∙ ap (out_text (circuit_on h cs)) (sym (sheet_before h cs))
 
-  pub codes_words : first_over (2 * top_of h + 1) cs ≡ none → Words cs
+  pub codes_words : first_over (2 * top_of h + 1) cs ≡ None → Words cs
   codes_words e i less = omega (arith, none_over (2 * top_of h + 1) cs e i less, bounds taken)
 
 pub lists-circuit : (h cs : List ℕ) {is ss ns gs rs : List ℕ} → is ≡ input_codes h cs → ss ≡ states_of (latch_words h cs)
@@ -178,14 +177,14 @@ module _ (h cs : List ℕ) (taken : Taken h) (room : length cs ≡ 7161) (n : �
       → out_text (circuit_on h ws) (renumber (circuit_on h ws)) ≡ out_text (circuit_on h (take (code_count h) cs)) (renumber (circuit_on h (take (code_count h) cs)))
   narrowed_text ws e = ap (λ (xs : List ℕ). out_text (circuit_on h xs) (renumber (circuit_on h xs))) (e ∙ counted)
 
-  pub narrow_words_lem : Nothing ≡ offender (first_over (2 * top_of h + 1) (take n cs)) → Words (take n cs)
-  narrow_words_lem e = codes_words h (take n cs) taken (codes_long ∙ count) (none_found (2 * top_of h + 1) (take n cs) e)
+  pub narrow_words_lem : first_over (2 * top_of h + 1) (take n cs) ≡ None → Words (take n cs)
+  narrow_words_lem e = codes_words h (take n cs) taken (codes_long ∙ count) e
 
-  pub over_refused : (c : ℕ) → Over c ≡ offender (first_over (2 * top_of h + 1) (take n cs))
+  pub over_refused : (c : ℕ) → first_over (2 * top_of h + 1) (take n cs) ≡ Some c
       → refused_line 4 c ≡ out_text (circuit_on h (take (code_count h) cs)) (renumber (circuit_on h (take (code_count h) cs)))
   over_refused c e =
       codes-over h (take (code_count h) cs) taken (ap length (sym counted) ∙ codes_long ∙ count) c
-      (ap (first_over (2 * top_of h + 1)) (sym counted) ∙ some_found (2 * top_of h + 1) (take n cs) c e)
+      (ap (first_over (2 * top_of h + 1)) (sym counted) ∙ e)
 
 -- the record of a header, its numbers read one by one
 abbrev with_counts : List ℕ → Var → List ℕ → CircuitRecord

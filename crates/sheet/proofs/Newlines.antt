@@ -2,6 +2,7 @@
 use Prim.Native.Nat.{ℕ}
 use mathlib.Core.Path.{◌≡◌, refl, sym, ap, ◌∙◌}
 use mathlib.Core.Logic.{◌⊎◌, inl, inr}
+use Rattle.std.specs.Prelude.{⊤, Result, Ok, Err}
 use mathlib.Core.List.{List, [], ◌∷◌, ◌++◌, append-nil, append_assoc}
 use Rattle.token.specs.Format.{digits_of}
 use Rattle.circuit.specs.Graph.{Gate}
@@ -10,8 +11,7 @@ use Rattle.circuit.specs.Circuit.{Circuit, renumber}
 use Rattle.circuit.specs.Ordered.{Ordered, ordered_of, gates_from}
 use Rattle.circuit.specs.Outcome.{summary_of}
 use Rattle.circuit.specs.Refusals.{refusal_number, refusal_literal}
-use Rattle.sheet_read.specs.declared.Reading.{Reading}
-use Rattle.sheet_read.specs.declared.Reading.TheVariants.{Whole, Faulty}
+use Rattle.sheet_read.specs.declared.Faulty.{Faulty}
 use Rattle.sheet_lines.specs.Lines.{spaced, ended, ordered_word, refused_word, refused_line, ordered_line, gate_line, image_line, next_letter, root_letter, each}
 use Rattle.sheet_read.specs.Sheet.{read_of}
 use Rattle.sheet.specs.Circuit.{circuit_on}
@@ -69,9 +69,9 @@ unfolding refused_text
 out_ends C (reached w) = text_ends (ordered_of C w)
 out_ends C (stopped why) = refused_ends (refusal_number why) (refusal_literal why).0
 
-read_ends : (r : Reading) (C : Circuit) → Ends (read_text r C)
-read_ends (Faulty n k) C = refused_ends n k
-read_ends Whole C = out_ends C (renumber C)
+read_ends : (r : Result ⊤ Faulty) (C : Circuit) → Ends (read_text r C)
+read_ends (Err f) C = refused_ends f.number f.beside
+read_ends (Ok u) C = out_ends C (renumber C)
 
 pub report_ends : (s : List ℕ) → Ends (report_of s)
 unfolding report_of

@@ -6,6 +6,7 @@ use mathlib.Core.Bool.{Bool, true, false, cond}
 use mathlib.Core.List.{List, [], ◌∷◌, ◌++◌}
 use native.Mathlib.Omega.{arith}
 use lib.Dec.{ltb}
+use Rattle.std.specs.Prelude.{⊤, Result, Ok, Err}
 use lib.ListN.{length, length-append, length-map, length-replicate}
 use Rattle.token.specs.Format.{digits_up_to, digits_of}
 use Rattle.circuit.specs.Refusals.{refusal_number, refusal_literal}
@@ -18,8 +19,7 @@ use Rattle.circuit.specs.Outcome.{summary_of}
 use Rattle.circuit.proofs.Renumber.{Limits, Answered, answered}
 use Rattle.circuit.proofs.Settled.{settled_le}
 use Rattle.circuit.proofs.Words.{gates_length}
-use Rattle.sheet_read.specs.declared.Reading.{Reading}
-use Rattle.sheet_read.specs.declared.Reading.TheVariants.{Whole, Faulty}
+use Rattle.sheet_read.specs.declared.Faulty.{Faulty}
 use Rattle.sheet_lines.specs.Lines.{spaced, ended, refused_line, ordered_line, gate_line, image_line, next_letter, root_letter, each}
 use Rattle.sheet_read.specs.Sheet.{code_count, read_of}
 use Rattle.sheet.specs.Circuit.{states_of, nexts_of, input_codes, gate_words, latch_words, root_codes, circuit_on}
@@ -160,6 +160,6 @@ pub report_fits : (s : List ℕ) → length (report_of s) ≤ 131072
 unfolding report_of
 report_fits s = go (read_of s).reading refl
   where
-    go : (r : Reading) → (read_of s).reading ≡ r → length (read_text r (circuit_on (read_of s).header (read_of s).codes)) ≤ 131072
-    go (Faulty n k) e = omega (arith, refused_few n k)
-    go Whole e = let t = sheet_taken s e in out_few (read_of s).header (read_of s).codes t.0 t.1
+    go : (r : Result ⊤ Faulty) → (read_of s).reading ≡ r → length (read_text r (circuit_on (read_of s).header (read_of s).codes)) ≤ 131072
+    go (Err f) e = omega (arith, refused_few f.number f.beside)
+    go (Ok u) e = let t = sheet_taken s e in out_few (read_of s).header (read_of s).codes t.0 t.1

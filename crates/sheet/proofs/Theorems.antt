@@ -15,8 +15,7 @@ use Rattle.circuit.specs.Outcome.{lent_of, conclusion, zeros}
 use Rattle.circuit.specs.Resets.{renumber_before}
 use Rattle.circuit.proofs.Outcome.{conclusion_of}
 use Rattle.sheet_lines.specs.Lines.{refused_line}
-use Rattle.sheet_read.specs.declared.Reading.TheVariants.{Whole}
-use Rattle.sheet_read.specs.Sheet.{sheet_limit, read_of}
+use Rattle.sheet_read.specs.Sheet.{sheet_limit, read_of, whole as read_whole}
 use Rattle.sheet.specs.Circuit.{record_on, circuit_on}
 use Rattle.sheet.specs.Report.{out_text, report_of, Ends}
 use Rattle.sheet.specs.Promise.{Shaped, Roomy, circuit_in}
@@ -63,6 +62,6 @@ library_order h is ss ns gs rs m n z r g w shaped roomy =
 
 -- 5. A sheet has no resets, and the report on it is what it was before latches had them.
 
-pub as_before : (s : List ℕ) → (read_of s).reading ≡ Whole
+pub as_before : (s : List ℕ) → (read_of s).reading ≡ read_whole
     → report_of s ≡ out_text (circuit_on (read_of s).header (read_of s).codes) (renumber_before (circuit_on (read_of s).header (read_of s).codes))
 as_before = reports.as_before

@@ -1,11 +1,10 @@
 -- What the report program writes, as one function of the bytes that it is given. Assumes nothing.
-use Rattle.std.specs.Prelude.{ℕ, ◌≡◌, List, [], ◌∷◌, ◌++◌}
+use Rattle.std.specs.Prelude.{ℕ, ◌≡◌, ⊤, List, [], ◌∷◌, ◌++◌, Result, Ok, Err}
 use Rattle.circuit.specs.Walk.{Out, reached, stopped}
 use Rattle.circuit.specs.Circuit.{Circuit, renumber}
 use Rattle.circuit.specs.Ordered.{Ordered, ordered_of}
 use Rattle.circuit.specs.Outcome.{summary_of}
-use Rattle.sheet_read.specs.declared.Reading.{Reading}
-use Rattle.sheet_read.specs.declared.Reading.TheVariants.{Whole, Faulty}
+use Rattle.sheet_read.specs.declared.Faulty.{Faulty}
 use Rattle.sheet_lines.specs.Lines.{refused_line}
 use Rattle.sheet_lines.specs.Text.{ordered_text, refused_text}
 use Rattle.sheet_read.specs.Sheet.{read_of}
@@ -21,9 +20,9 @@ out_text C (reached w) = text_of (ordered_of C w)
 out_text C (stopped why) = refused_text why
 
 -- a faulty sheet is refused; a whole one has a circuit, which is renumbered
-abbrev pub read_text : Reading → Circuit → List ℕ
-read_text (Faulty number place) C = refused_line number place
-read_text Whole C = out_text C (renumber C)
+abbrev pub read_text : Result ⊤ Faulty → Circuit → List ℕ
+read_text (Err e) C = refused_line e.number e.beside
+read_text (Ok u) C = out_text C (renumber C)
 
 -- the text for a sheet
 unfoldable pub report_of : List ℕ → List ℕ

@@ -4,17 +4,18 @@
 mod header;
 mod lists;
 
-ghost use Rattle.std.specs.Prelude.{◌≡◌, length};
+ghost use Rattle.std.specs.Prelude.{◌≡◌, length, replicate};
 ghost use Rattle.text.specs.Put.{put_all};
 ghost use Rattle.sheet.specs.Report.{report_of};
 
-use sheet_read::Reading;
+use sheet_read::Faulty;
 
-// Room for the codes of the largest sheet.
-fn all_codes() -> [u64; 7161]
-    ensures { 7161 ≡ length result }
+// Room of any length, each cell of it x: the lists of the largest circuit on a sheet, and its codes.
+fn filled<T: Copy, const N: usize>(x: T) -> [T; N]
+    ensures all { result ≡ replicate N x }
+    ensures long { length result ≡ N }
 {
-    [0; 7161]
+    [x; N]
 }
 
 // The report on a sheet: puts its text into the lent bytes, as far as it fits, and answers the text's length.
@@ -22,12 +23,9 @@ pub fn report(sheet: &[u8], out: &mut [u8]) -> usize
     ensures { (out.new ≡ put_all out.old 0 (report_of sheet.now)) × (result ≡ length (report_of sheet.now)) }
 {
     let mut header = [0u64; 10];
-    let mut codes = all_codes();
-    let reading = sheet_read::read(sheet, &mut header, &mut codes);
-    match reading {
-        Reading::Whole => lists::report_codes(&header, &codes, out),
-        Reading::Faulty { number, beside } => {
-            sheet_lines::put_refused(out, number as u64, beside)
-        }
+    let mut codes: [u64; 7161] = filled(0);
+    match sheet_read::read(sheet, &mut header, &mut codes) {
+        Ok(()) => lists::report_codes(&header, &codes, out),
+        Err(Faulty { number, beside }) => sheet_lines::put_refused(out, number as u64, beside),
     }
 }

@@ -1,66 +1,25 @@
 // From the codes of a sheet to the lists that renumbering takes, and to the text of its answer.
 ghost use Rattle.std.specs.Prelude.{◌≡◌, ◌*◌, length, take};
 ghost use Rattle.circuit.specs.Circuit.{renumber};
-ghost use Rattle.circuit.specs.Outcome.{zeros};
 ghost use Rattle.sheet_read.specs.Sheet.{code_count};
 ghost use Rattle.sheet.specs.Circuit.{states_of, nexts_of, circuit_on};
 ghost use Rattle.sheet.specs.Report.{out_text};
-ghost use Rattle.sheet_lines.specs.Promise.{Put};
+ghost use Rattle.text.specs.Put.{Puts};
 ghost use Rattle.sheet_read.specs.Promise.{Taken};
 ghost use Rattle.sheet.specs.Promise.{Words, circuit_in, Shaped, Roomy};
 
-use crate::header;
-use circuit::Answer;
+use crate::{filled, header};
+use circuit::{CircuitLists, CircuitRoom};
 use sheet_lines::{print_ordered, print_refused, put_refused};
-use sheet_read::{Offender, first_over};
-
-// Room for the largest circuit on a sheet: its words, a word for each latch or root, for the map, for the gates made, and scratch.
-fn all_words() -> [u32; 7161]
-    ensures { 7161 ≡ length result }
-{
-    [0; 7161]
-}
-
-fn row() -> [u32; 1023]
-    ensures { 1023 ≡ length result }
-{
-    [0; 1023]
-}
-
-// A reset of 0 for each latch of the largest circuit: a sheet has no resets.
-fn no_resets() -> [u32; 1023]
-    ensures { result ≡ zeros 1023 }
-{
-    [0u32; 1023]
-}
-
-fn map_words() -> [u32; 1024]
-    ensures { 1024 ≡ length result }
-{
-    [0; 1024]
-}
-
-fn pair_words() -> [u32; 2046]
-    ensures { 2046 ≡ length result }
-{
-    [0; 2046]
-}
-
-fn scratch_words() -> [u32; 6141]
-    ensures { 6141 ≡ length result }
-{
-    [0; 6141]
-}
+use sheet_read::first_over;
 
 // The codes as words.
 fn narrow(codes: &[u64], words: &mut [u32])
     requires { (length words.old ≡ length codes.now) × Words codes.now }
     ensures { words.new ≡ codes.now }
 {
-    let mut i: usize = 0;
-    while i < words.len() {
-        words[i] = codes[i] as u32;
-        i += 1;
+    for (i, word) in words.iter_mut().enumerate() {
+        *word = codes[i] as u32;
     }
 }
 
@@ -69,11 +28,9 @@ fn split(latches: &[u32], states: &mut [u32], nexts: &mut [u32])
     requires { (length latches.now ≡ 2 * length states.old) × (length nexts.old ≡ length states.old) }
     ensures { (states.new ≡ states_of latches.now) × (nexts.new ≡ nexts_of latches.now) }
 {
-    let mut j: usize = 0;
-    while j < states.len() {
+    for j in 0..states.len() {
         states[j] = latches[2 * j];
         nexts[j] = latches[2 * j + 1];
-        j += 1;
     }
 }
 
@@ -95,31 +52,34 @@ fn report_answer(
 ) -> usize
     requires { Shaped header.now inputs.now states.now nexts.now gates.now roots.now
         × Roomy map.old next_images.old reset_images.old root_images.old gates_out.old scratch.old }
-    ensures { Put out.old 0 (out_text
+    ensures { Puts out.old 0 (out_text
         (circuit_in header.now inputs.now states.now nexts.now gates.now roots.now)
         (renumber (circuit_in header.now inputs.now states.now nexts.now gates.now
         roots.now))) out.new result }
 {
     let circuit = header::circuit_on(header);
-    let resets = no_resets();
+    // a sheet has no resets: each latch of the largest circuit has 0
+    let resets: [u32; 1023] = filled(0);
     let latch_count = states.len();
-    let answer = aig::renumber(
-        circuit,
+    let lists = CircuitLists {
         inputs,
         states,
         nexts,
-        &resets[..latch_count],
+        resets: &resets[..latch_count],
         gates,
         roots,
+    };
+    let room = CircuitRoom {
         map,
         next_images,
         reset_images,
         root_images,
         gates_out,
         scratch,
-    );
+    };
+    let answer = aig::renumber(circuit, &lists, room);
     match answer {
-        Answer::Renumbered(summary) => {
+        Ok(summary) => {
             let input_count = inputs.len() as u32;
             let root_count = roots.len();
             let gate_words = 2 * (summary.made as usize);
@@ -132,7 +92,7 @@ fn report_answer(
                 out,
             )
         }
-        Answer::Refused(why) => print_refused(why, out),
+        Err(why) => print_refused(why, out),
     }
 }
 
@@ -147,17 +107,17 @@ fn report_circuit(
     out: &mut [u8],
 ) -> usize
     requires { Shaped header.now inputs.now states.now nexts.now gates.now roots.now }
-    ensures { Put out.old 0 (out_text
+    ensures { Puts out.old 0 (out_text
         (circuit_in header.now inputs.now states.now nexts.now gates.now roots.now)
         (renumber (circuit_in header.now inputs.now states.now nexts.now gates.now
         roots.now))) out.new result }
 {
-    let mut map = map_words();
-    let mut next_images = row();
-    let mut reset_images = row();
-    let mut root_images = row();
-    let mut gates_out = pair_words();
-    let mut scratch = scratch_words();
+    let mut map: [u32; 1024] = filled(0);
+    let mut next_images: [u32; 1023] = filled(0);
+    let mut reset_images: [u32; 1023] = filled(0);
+    let mut root_images: [u32; 1023] = filled(0);
+    let mut gates_out: [u32; 2046] = filled(0);
+    let mut scratch: [u32; 6141] = filled(0);
     report_answer(
         header,
         inputs,
@@ -178,15 +138,15 @@ fn report_circuit(
 // The same of the words of a sheet, its lists in a row.
 fn report_words(header: &[u64], words: &[u32], out: &mut [u8]) -> usize
     requires { Taken header.now × (length words.now ≡ code_count header.now) }
-    ensures { Put out.old 0 (out_text (circuit_on header.now words.now)
+    ensures { Puts out.old 0 (out_text (circuit_on header.now words.now)
         (renumber (circuit_on header.now words.now))) out.new result }
 {
     let inputs_end = header[1] as usize;
     let gates_end = inputs_end + 3 * (header[3] as usize);
     let latches = header[2] as usize;
     let latches_end = gates_end + 2 * latches;
-    let mut states = row();
-    let mut nexts = row();
+    let mut states: [u32; 1023] = filled(0);
+    let mut nexts: [u32; 1023] = filled(0);
     split(
         &words[gates_end..latches_end],
         &mut states[..latches],
@@ -206,17 +166,16 @@ fn report_words(header: &[u64], words: &[u32], out: &mut [u8]) -> usize
 // The same of the codes of a sheet: first check 4, since a code may be too big for a word.
 pub fn report_codes(header: &[u64], codes: &[u64], out: &mut [u8]) -> usize
     requires { Taken header.now × (length codes.now ≡ 7161) }
-    ensures { Put out.old 0 (out_text (circuit_on header.now (take (code_count header.now) codes.now))
+    ensures { Puts out.old 0 (out_text (circuit_on header.now (take (code_count header.now) codes.now))
         (renumber (circuit_on header.now (take (code_count header.now) codes.now)))) out.new result }
 {
     let count = header::code_count(header);
-    let offender = first_over(&codes[..count], 2 * header[0] + 1);
-    match offender {
-        Offender::Nothing => {
-            let mut words = all_words();
+    match first_over(&codes[..count], 2 * header[0] + 1) {
+        None => {
+            let mut words: [u32; 7161] = filled(0);
             narrow(&codes[..count], &mut words[..count]);
             report_words(header, &words[..count], out)
         }
-        Offender::Over(code) => put_refused(out, 4, code),
+        Some(code) => put_refused(out, 4, code),
     }
 }

@@ -11,7 +11,7 @@ use Rattle.circuit.specs.Graph.{Gate}
 use Rattle.circuit.specs.Walk.{Pair, first_code}
 use Rattle.sheet_lines.specs.Lines.{spaced, ended, ordered_word, refused_word, refused_line, ordered_line, gate_line, image_line, next_letter, root_letter, each}
 use Rattle.sheet_lines.specs.Text.{ordered_text, refused_text}
-use Rattle.sheet_lines.specs.Promise.{Put}
+use Rattle.text.specs.Put.{Puts}
 
 -- a text as bytes, a byte a character, since all of them are ASCII
 abbrev pub bytes : String → List ℕ
@@ -77,7 +77,7 @@ refusals_pinned = (refl, refl, refl, refl, refl, refl, refl, refl, refl)
 -- written, and the place goes on. Two outcomes that it allows are what it says, and it allows them.
 
 pub put_pinned : (after : List ℕ) (place : ℕ)
-    → (Put (6 ∷ 7 ∷ 8 ∷ 9 ∷ 5 ∷ []) 1 (1 ∷ 2 ∷ []) after place → (after ≡ 6 ∷ 1 ∷ 2 ∷ 9 ∷ 5 ∷ []) × (place ≡ 3))
-    × ((after ≡ 6 ∷ 1 ∷ 2 ∷ 9 ∷ 5 ∷ []) × (place ≡ 3) → Put (6 ∷ 7 ∷ 8 ∷ 9 ∷ 5 ∷ []) 1 (1 ∷ 2 ∷ []) after place)
-    × (Put (6 ∷ 7 ∷ []) 1 (1 ∷ 2 ∷ 3 ∷ []) after place → (after ≡ 6 ∷ 1 ∷ []) × (place ≡ 4))
-put_pinned after place = (λ p. (p.left, p.next), λ e. record { left = e.0; next = e.1 }, λ p. (p.left, p.next))
+    → (Puts (6 ∷ 7 ∷ 8 ∷ 9 ∷ 5 ∷ []) 1 (1 ∷ 2 ∷ []) after place → (after ≡ 6 ∷ 1 ∷ 2 ∷ 9 ∷ 5 ∷ []) × (place ≡ 3))
+    × ((after ≡ 6 ∷ 1 ∷ 2 ∷ 9 ∷ 5 ∷ []) × (place ≡ 3) → Puts (6 ∷ 7 ∷ 8 ∷ 9 ∷ 5 ∷ []) 1 (1 ∷ 2 ∷ []) after place)
+    × (Puts (6 ∷ 7 ∷ []) 1 (1 ∷ 2 ∷ 3 ∷ []) after place → (after ≡ 6 ∷ 1 ∷ []) × (place ≡ 4))
+put_pinned after place = (λ p. p, λ e. e, λ p. p)

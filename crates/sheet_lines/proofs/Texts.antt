@@ -1,44 +1,28 @@
 -- Texts put one after the other: each goes to the place that the one before it answered, so together they are put in a row. Assumes nothing.
 use Prim.Native.Nat.{ℕ, zero, suc, ◌+◌, ◌*◌, ◌/◌, ◌≤◌, ◌<◌}
-use mathlib.Core.Path.{◌≡◌, refl, sym, ap, ◌∙◌}
+use mathlib.Core.Path.{◌≡◌, refl, sym, ap, subst, ◌∙◌}
 use mathlib.Core.List.{List, [], ◌∷◌, ◌++◌, append-nil, append_assoc}
 use native.Mathlib.Numerals.{add-one}
 use native.Mathlib.Omega.{arith}
-use lib.ListN.{length, get_or, set, take}
+use lib.ListN.{length, get_or, take}
 use lib.Seq.{take-suc, take_all}
-use Rattle.place.specs.Place.{last, further}
+use Rattle.place.specs.Place.{last}
 use Rattle.place.proofs.Theorems.{further_none}
-use Rattle.text.specs.Put.{put_all}
+use Rattle.text.specs.Put.{Puts}
 use Rattle.text.proofs.Theorems.{in_a_row, length_kept}
 use Rattle.circuit.specs.Graph.{Gate}
 use Rattle.circuit.specs.Ordered.{gates_from}
 use Rattle.circuit.specs.Outcome.{pairs_of}
 use Rattle.sheet_lines.specs.Lines.{gate_line, each}
-use Rattle.sheet_lines.specs.Promise.{Put}
-
-pub put_keeps : {o₀ : List ℕ} {at : ℕ} {bs o₁ : List ℕ} {p₁ : ℕ} → Put o₀ at bs o₁ p₁ → length o₁ ≡ length o₀
-put_keeps {o₀} {at} {bs} p = ap length p.left ∙ length_kept o₀ at bs
-
--- one byte, and bytes
-pub put_byte : {o₀ : List ℕ} {at : ℕ} {o₁ : List ℕ} {p₁ : ℕ} (b : ℕ) → (o₁ ≡ set o₀ at b) × (p₁ ≡ further at 1) → Put o₀ at (b ∷ []) o₁ p₁
-put_byte b p = record { left = p.0; next = p.1 }
-
-pub put_bytes_lem : {o₀ : List ℕ} {at : ℕ} {o₁ : List ℕ} {p₁ : ℕ} (bs : List ℕ) → (o₁ ≡ put_all o₀ at bs) × (p₁ ≡ further at (length bs)) → Put o₀ at bs o₁ p₁
-put_bytes_lem bs p = record { left = p.0; next = p.1 }
 
 -- the same text, otherwise said
-pub put_same : {o₀ : List ℕ} {at : ℕ} {bs o₁ : List ℕ} {p₁ : ℕ} {cs : List ℕ} → Put o₀ at bs o₁ p₁ → bs ≡ cs → Put o₀ at cs o₁ p₁
-put_same {o₀} {at} p e = record { left = p.left ∙ ap (put_all o₀ at) e; next = p.next ∙ ap (λ (b : List ℕ). further at (length b)) e }
+pub put_same : (o₀ : List ℕ) (at : ℕ) {bs cs o₁ : List ℕ} {p₁ : ℕ} → Puts o₀ at bs o₁ p₁ → bs ≡ cs → Puts o₀ at cs o₁ p₁
+put_same o₀ at {bs} {cs} {o₁} {p₁} p e = subst (λ (ts : List ℕ). Puts o₀ at ts o₁ p₁) e p
 
 -- one text and then another
-pub put_then : {o₀ : List ℕ} {at : ℕ} {bs o₁ : List ℕ} {p₁ : ℕ} {cs o₂ : List ℕ} {p₂ : ℕ}
-    → length o₀ ≤ last → Put o₀ at bs o₁ p₁ → (length o₁ ≤ last → Put o₁ p₁ cs o₂ p₂) → Put o₀ at (bs ++ cs) o₂ p₂
-put_then {o₀} {at} {bs} {o₁} {p₁} {cs} short p after =
-    let q = after (omega (arith, put_keeps p)) in
-    record {
-      left = q.left ∙ ap (λ (o : List ℕ). put_all o p₁ cs) p.left ∙ ap (λ (k : ℕ). put_all (put_all o₀ at bs) k cs) p.next ∙ (in_a_row o₀ at bs cs short).0;
-      next = q.next ∙ ap (λ (k : ℕ). further k (length cs)) p.next ∙ (in_a_row o₀ at bs cs short).1;
-    }
+pub put_then : (o₀ : List ℕ) (at : ℕ) (bs cs : List ℕ) {o₁ o₂ : List ℕ} {p₁ p₂ : ℕ} → length o₀ ≤ last → Puts o₀ at bs o₁ p₁ → Puts o₁ p₁ cs o₂ p₂
+    → Puts o₀ at (bs ++ cs) o₂ p₂
+put_then o₀ at bs cs short p q = rw (q.0, q.1, p.0, p.1) (in_a_row o₀ at bs cs short)
 
 -- a line for each of a list
 
@@ -55,30 +39,30 @@ each_more {A} line xs i d h =
 -- the lines of the first i of xs are put
 pub record Listing {A : Type 0} (line : A → List ℕ) (xs : List A) (o₀ : List ℕ) (at : ℕ) (o : List ℕ) (i place : ℕ) : Type 0 where
   pub inside : i ≤ length xs
-  pub sofar : Put o₀ at (each line (take i xs)) o place
+  pub sofar : Puts o₀ at (each line (take i xs)) o place
 
 pub listing_none : {A : Type 0} (line : A → List ℕ) (xs : List A) (o₀ : List ℕ) (at : ℕ) → at ≤ last → Listing line xs o₀ at o₀ 0 at
-listing_none line xs o₀ at h = record { inside = omega arith; sofar = record { left = refl; next = sym (further_none at h) } }
+listing_none line xs o₀ at h = record { inside = omega arith; sofar = (refl, sym (further_none at h)) }
 
 module _ {A : Type 0} {line : A → List ℕ} {xs : List A} {o₀ : List ℕ} {at : ℕ} {o : List ℕ} {i place : ℕ} (l : Listing line xs o₀ at o i place) where
-  pub listing_more : (d : A) {bs o' : List ℕ} {place' : ℕ} → length o₀ ≤ last → i < length xs → bs ≡ line (get_or xs i d) → Put o place bs o' place'
+  pub listing_more : (d : A) {bs o' : List ℕ} {place' : ℕ} → length o₀ ≤ last → i < length xs → bs ≡ line (get_or xs i d) → Puts o place bs o' place'
       → Listing line xs o₀ at o' (i + 1) place'
   listing_more d {bs} {o'} {place'} short h e q =
-      let both : Put o₀ at (each line (take i xs) ++ bs) o' place' = put_then short l.sofar (λ _. q) in
+      let both : Puts o₀ at (each line (take i xs) ++ bs) o' place' = put_then o₀ at (each line (take i xs)) bs short l.sofar q in
       let more : each line (take i xs) ++ bs ≡ each line (take (i + 1) xs) = ap (λ (b : List ℕ). each line (take i xs) ++ b) e
       ∙ sym (each_more line xs i d h) in
       record {
         inside = omega arith;
-        sofar = record { left = both.left ∙ ap (put_all o₀ at) more; next = both.next ∙ ap (λ (b : List ℕ). further at (length b)) more };
+        sofar = put_same o₀ at both more;
       }
 
-  pub listing_all : length xs ≤ i → Put o₀ at (each line xs) o place
+  pub listing_all : length xs ≤ i → Puts o₀ at (each line xs) o place
   listing_all h =
       let all : each line (take i xs) ≡ each line xs = ap (each line) (take_all i xs h) in
-      record { left = l.sofar.left ∙ ap (put_all o₀ at) all; next = l.sofar.next ∙ ap (λ (b : List ℕ). further at (length b)) all }
+      put_same o₀ at l.sofar all
 
   pub listing_keeps : length o ≡ length o₀
-  listing_keeps = put_keeps l.sofar
+  listing_keeps = ap length l.sofar.0 ∙ length_kept o₀ at (each line (take i xs))
 
 -- gates from a flat list of pairs, with their outputs from a code on
 

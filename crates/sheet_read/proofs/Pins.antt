@@ -2,25 +2,22 @@
 -- computation; the sheets at the limit of 60,000 bytes by their length. Assumes nothing.
 use Prim.Native.Nat.{ℕ}
 use mathlib.Core.Path.{◌≡◌, refl}
-use mathlib.Core.Option.{none, some}
+use Rattle.std.specs.Prelude.{⊤, Result, Ok, Err}
 use mathlib.Core.List.{List, [], ◌∷◌, ◌++◌}
 use native.Mathlib.Omega.{arith}
 use lib.ListN.{length, replicate}
 use Rattle.token.specs.declared.Reason.TheVariants.{Cut, TooLong}
-use Rattle.token.specs.Answer.{binary_at, go_on_at}
-use Rattle.sheet_read.specs.declared.Ended.{Ended}
-use Rattle.sheet_read.specs.declared.Ended.TheVariants.{After, Broken}
-use Rattle.sheet_read.specs.declared.Reading.{Reading}
-use Rattle.sheet_read.specs.declared.Reading.TheVariants.{Whole, Faulty}
-use Rattle.sheet_read.specs.declared.Offender.TheVariants.{Nothing, Over}
-use Rattle.sheet_read.specs.Sheet.{Run, numbers_at, top_of, input_count, latch_count, gate_count, root_counts, root_count, flags_of, too_large, code_count, announced, Read, lists_read, sheet_read, read_of}
-use Rattle.sheet_read.specs.Promise.{Fills, Reads, ReadsCodes, offender, Small, Taken}
+use Rattle.token.specs.Answer.{refused, binary_at, go_on_at}
+use Rattle.token.specs.declared.Refused.{Refused}
+use Rattle.sheet_read.specs.declared.Faulty.{Faulty}
+use Rattle.sheet_read.specs.Sheet.{Run, numbers_at, top_of, input_count, latch_count, gate_count, root_counts, root_count, flags_of, too_large, code_count, announced, whole, faulty, faulty_number, Read, lists_read, sheet_read, read_of}
+use Rattle.sheet_read.specs.Promise.{Fills, Reads, ReadsCodes, Small, Taken}
 
 -- numbers that were read, and how they ended; a sheet that was read
-abbrev run : List ℕ → Ended → Run
+abbrev run : List ℕ → Result ℕ Refused → Run
 run numbers ended = record { numbers = numbers; ended = ended }
 
-abbrev read : Reading → List ℕ → List ℕ → Read
+abbrev read : Result ⊤ Faulty → List ℕ → List ℕ → Read
 read reading header codes = record { reading = reading; header = header; codes = codes }
 
 -- 1. Numbers in a row.
@@ -31,16 +28,16 @@ row = 0x05 ∷ 0x81 ∷ 0x01 ∷ 0x00 ∷ 0x80 ∷ 0x80 ∷ 0x02 ∷ 0xff ∷ []
 
 pub numbers_pinned :
     -- two from the first byte on, three from the second on; none at all, from a byte that goes on, and from past the end
-    (numbers_at row 0 2 ≡ run (5 ∷ 129 ∷ []) (After 3))
-    × (numbers_at row 1 3 ≡ run (129 ∷ 0 ∷ 32768 ∷ []) (After 7))
-    × (numbers_at row 7 0 ≡ run [] (After 7))
-    × (numbers_at row 9 0 ≡ run [] (After 9))
+    (numbers_at row 0 2 ≡ run (5 ∷ 129 ∷ []) (Ok 3))
+    × (numbers_at row 1 3 ≡ run (129 ∷ 0 ∷ 32768 ∷ []) (Ok 7))
+    × (numbers_at row 7 0 ≡ run [] (Ok 7))
+    × (numbers_at row 9 0 ≡ run [] (Ok 9))
     -- five: the fifth is cut, at its own place, and the four before it are read; past the end every number is cut where it is asked for
-    × (numbers_at row 0 5 ≡ run (5 ∷ 129 ∷ 0 ∷ 32768 ∷ []) (Broken Cut 7))
-    × (numbers_at row 9 2 ≡ run [] (Broken Cut 9))
+    × (numbers_at row 0 5 ≡ run (5 ∷ 129 ∷ 0 ∷ 32768 ∷ []) (refused Cut 7))
+    × (numbers_at row 9 2 ≡ run [] (refused Cut 9))
     -- after two numbers eight bytes that go on, whatever follows them; seven, and the eighth ends the number 2 ^ 49
-    × (numbers_at (0x05 ∷ 0x06 ∷ (replicate 8 0x80 ++ (0x01 ∷ []))) 0 3 ≡ run (5 ∷ 6 ∷ []) (Broken TooLong 2))
-    × (numbers_at (0x05 ∷ 0x06 ∷ (replicate 7 0x80 ++ (0x01 ∷ []))) 0 3 ≡ run (5 ∷ 6 ∷ 562949953421312 ∷ []) (After 10))
+    × (numbers_at (0x05 ∷ 0x06 ∷ (replicate 8 0x80 ++ (0x01 ∷ []))) 0 3 ≡ run (5 ∷ 6 ∷ []) (refused TooLong 2))
+    × (numbers_at (0x05 ∷ 0x06 ∷ (replicate 7 0x80 ++ (0x01 ∷ []))) 0 3 ≡ run (5 ∷ 6 ∷ 562949953421312 ∷ []) (Ok 10))
 unfolding numbers_at binary_at go_on_at
 numbers_pinned = (refl, refl, refl, refl, refl, refl, refl, refl)
 
@@ -89,27 +86,27 @@ codes rest =
 
 pub readings_pinned :
     -- roots 18 and 3 after the 12: the sheet is whole; also where the 18 takes three bytes; and with flags 7
-    (read_of (sheet 5 (0x12 ∷ 0x03 ∷ [])) ≡ read Whole (header 5) (codes (18 ∷ 3 ∷ [])))
-    × (read_of (sheet 5 (0x92 ∷ 0x80 ∷ 0x00 ∷ 0x03 ∷ [])) ≡ read Whole (header 5) (codes (18 ∷ 3 ∷ [])))
-    × (read_of (sheet 7 (0x12 ∷ 0x03 ∷ [])) ≡ read Whole (header 7) (codes (18 ∷ 3 ∷ [])))
+    (read_of (sheet 5 (0x12 ∷ 0x03 ∷ [])) ≡ read whole (header 5) (codes (18 ∷ 3 ∷ [])))
+    × (read_of (sheet 5 (0x92 ∷ 0x80 ∷ 0x00 ∷ 0x03 ∷ [])) ≡ read whole (header 5) (codes (18 ∷ 3 ∷ [])))
+    × (read_of (sheet 7 (0x12 ∷ 0x03 ∷ [])) ≡ read whole (header 7) (codes (18 ∷ 3 ∷ [])))
     -- flags 8 are 2, and no code is read, also where one is cut
-    × (read_of (sheet 8 (0x12 ∷ 0x03 ∷ [])) ≡ read (Faulty 2 0) (header 8) [])
-    × (read_of (sheet 8 (0x12 ∷ 0x80 ∷ [])) ≡ read (Faulty 2 0) (header 8) [])
+    × (read_of (sheet 8 (0x12 ∷ 0x03 ∷ [])) ≡ read (faulty 2 0) (header 8) [])
+    × (read_of (sheet 8 (0x12 ∷ 0x80 ∷ [])) ≡ read (faulty 2 0) (header 8) [])
     -- the flags are the tenth number, whichever byte they are: flags 8 in the eleventh byte; and a tenth byte 8, which counts justice literals that are missed
-    × (read_of (0x8b ∷ 0x00 ∷ (replicate 8 0x00 ++ (0x08 ∷ []))) ≡ read (Faulty 2 0) (11 ∷ (replicate 8 0 ++ (8 ∷ []))) [])
-    × (read_of (0x8b ∷ 0x00 ∷ (replicate 7 0x00 ++ (0x08 ∷ 0x00 ∷ []))) ≡ read (Faulty 15 11) (11 ∷ (replicate 7 0 ++ (8 ∷ 0 ∷ []))) [])
+    × (read_of (0x8b ∷ 0x00 ∷ (replicate 8 0x00 ++ (0x08 ∷ []))) ≡ read (faulty 2 0) (11 ∷ (replicate 8 0 ++ (8 ∷ []))) [])
+    × (read_of (0x8b ∷ 0x00 ∷ (replicate 7 0x00 ++ (0x08 ∷ 0x00 ∷ []))) ≡ read (faulty 15 11) (11 ∷ (replicate 7 0 ++ (8 ∷ 0 ∷ []))) [])
     -- one byte left, and two
-    × (read_of (sheet 5 (0x12 ∷ 0x03 ∷ 0x00 ∷ [])) ≡ read (Faulty 2 0) (header 5) (codes (18 ∷ 3 ∷ [])))
-    × (read_of (sheet 5 (0x12 ∷ 0x03 ∷ 0x00 ∷ 0x80 ∷ [])) ≡ read (Faulty 2 0) (header 5) (codes (18 ∷ 3 ∷ [])))
+    × (read_of (sheet 5 (0x12 ∷ 0x03 ∷ 0x00 ∷ [])) ≡ read (faulty 2 0) (header 5) (codes (18 ∷ 3 ∷ [])))
+    × (read_of (sheet 5 (0x12 ∷ 0x03 ∷ 0x00 ∷ 0x80 ∷ [])) ≡ read (faulty 2 0) (header 5) (codes (18 ∷ 3 ∷ [])))
     -- the last root cut, or not there: 15 at its place; too long: 16; the codes before it are read
-    × (read_of (sheet 5 (0x12 ∷ 0x83 ∷ [])) ≡ read (Faulty 15 35) (header 5) (codes (18 ∷ [])))
-    × (read_of (sheet 5 (0x12 ∷ [])) ≡ read (Faulty 15 35) (header 5) (codes (18 ∷ [])))
-    × (read_of (sheet 5 (replicate 8 0x92 ++ (0x03 ∷ []))) ≡ read (Faulty 16 34) (header 5) (codes []))
+    × (read_of (sheet 5 (0x12 ∷ 0x83 ∷ [])) ≡ read (faulty 15 35) (header 5) (codes (18 ∷ [])))
+    × (read_of (sheet 5 (0x12 ∷ [])) ≡ read (faulty 15 35) (header 5) (codes (18 ∷ [])))
+    × (read_of (sheet 5 (replicate 8 0x92 ++ (0x03 ∷ []))) ≡ read (faulty 16 34) (header 5) (codes []))
     -- the header broken in the middle: no byte at all, nine numbers, the fourth cut, the third too long; the numbers before it are read
-    × (read_of [] ≡ read (Faulty 15 0) [] [])
-    × (read_of (0x0b ∷ 0x03 ∷ 0x02 ∷ 0x05 ∷ 0x01 ∷ 0x00 ∷ 0x02 ∷ 0x00 ∷ 0x01 ∷ []) ≡ read (Faulty 15 9) (11 ∷ 3 ∷ 2 ∷ 5 ∷ 1 ∷ 0 ∷ 2 ∷ 0 ∷ 1 ∷ []) [])
-    × (read_of (0x8b ∷ 0x00 ∷ 0x03 ∷ 0x02 ∷ 0x85 ∷ []) ≡ read (Faulty 15 4) (11 ∷ 3 ∷ 2 ∷ []) [])
-    × (read_of (0x0b ∷ 0x03 ∷ (replicate 9 0xff ++ replicate 9 0x00)) ≡ read (Faulty 16 2) (11 ∷ 3 ∷ []) [])
+    × (read_of [] ≡ read (faulty 15 0) [] [])
+    × (read_of (0x0b ∷ 0x03 ∷ 0x02 ∷ 0x05 ∷ 0x01 ∷ 0x00 ∷ 0x02 ∷ 0x00 ∷ 0x01 ∷ []) ≡ read (faulty 15 9) (11 ∷ 3 ∷ 2 ∷ 5 ∷ 1 ∷ 0 ∷ 2 ∷ 0 ∷ 1 ∷ []) [])
+    × (read_of (0x8b ∷ 0x00 ∷ 0x03 ∷ 0x02 ∷ 0x85 ∷ []) ≡ read (faulty 15 4) (11 ∷ 3 ∷ 2 ∷ []) [])
+    × (read_of (0x0b ∷ 0x03 ∷ (replicate 9 0xff ++ replicate 9 0x00)) ≡ read (faulty 16 2) (11 ∷ 3 ∷ []) [])
 unfolding read_of sheet_read lists_read numbers_at binary_at go_on_at too_large root_count code_count
 readings_pinned = (refl, refl, refl, refl, refl, refl, refl, refl, refl, refl, refl, refl, refl, refl, refl, refl)
 
@@ -122,51 +119,51 @@ alone_read before number after = replicate before 0 ++ (number ∷ replicate aft
 
 -- each of the nine alone at 1,023 passes: for V the sheet is whole, and for the others the first of their codes is missed, at place 11. At 1,024 each is 1
 pub sizes_pinned :
-    (read_of (alone 0 0xff 0x07 9) ≡ read Whole (alone_read 0 1023 9) [])
-    × (read_of (alone 1 0xff 0x07 8) ≡ read (Faulty 15 11) (alone_read 1 1023 8) [])
-    × (read_of (alone 2 0xff 0x07 7) ≡ read (Faulty 15 11) (alone_read 2 1023 7) [])
-    × (read_of (alone 3 0xff 0x07 6) ≡ read (Faulty 15 11) (alone_read 3 1023 6) [])
-    × (read_of (alone 4 0xff 0x07 5) ≡ read (Faulty 15 11) (alone_read 4 1023 5) [])
-    × (read_of (alone 5 0xff 0x07 4) ≡ read (Faulty 15 11) (alone_read 5 1023 4) [])
-    × (read_of (alone 6 0xff 0x07 3) ≡ read (Faulty 15 11) (alone_read 6 1023 3) [])
-    × (read_of (alone 7 0xff 0x07 2) ≡ read (Faulty 15 11) (alone_read 7 1023 2) [])
-    × (read_of (alone 8 0xff 0x07 1) ≡ read (Faulty 15 11) (alone_read 8 1023 1) [])
-    × (read_of (alone 0 0x80 0x08 9) ≡ read (Faulty 1 0) (alone_read 0 1024 9) [])
-    × (read_of (alone 1 0x80 0x08 8) ≡ read (Faulty 1 0) (alone_read 1 1024 8) [])
-    × (read_of (alone 2 0x80 0x08 7) ≡ read (Faulty 1 0) (alone_read 2 1024 7) [])
-    × (read_of (alone 3 0x80 0x08 6) ≡ read (Faulty 1 0) (alone_read 3 1024 6) [])
-    × (read_of (alone 4 0x80 0x08 5) ≡ read (Faulty 1 0) (alone_read 4 1024 5) [])
-    × (read_of (alone 5 0x80 0x08 4) ≡ read (Faulty 1 0) (alone_read 5 1024 4) [])
-    × (read_of (alone 6 0x80 0x08 3) ≡ read (Faulty 1 0) (alone_read 6 1024 3) [])
-    × (read_of (alone 7 0x80 0x08 2) ≡ read (Faulty 1 0) (alone_read 7 1024 2) [])
-    × (read_of (alone 8 0x80 0x08 1) ≡ read (Faulty 1 0) (alone_read 8 1024 1) [])
+    (read_of (alone 0 0xff 0x07 9) ≡ read whole (alone_read 0 1023 9) [])
+    × (read_of (alone 1 0xff 0x07 8) ≡ read (faulty 15 11) (alone_read 1 1023 8) [])
+    × (read_of (alone 2 0xff 0x07 7) ≡ read (faulty 15 11) (alone_read 2 1023 7) [])
+    × (read_of (alone 3 0xff 0x07 6) ≡ read (faulty 15 11) (alone_read 3 1023 6) [])
+    × (read_of (alone 4 0xff 0x07 5) ≡ read (faulty 15 11) (alone_read 4 1023 5) [])
+    × (read_of (alone 5 0xff 0x07 4) ≡ read (faulty 15 11) (alone_read 5 1023 4) [])
+    × (read_of (alone 6 0xff 0x07 3) ≡ read (faulty 15 11) (alone_read 6 1023 3) [])
+    × (read_of (alone 7 0xff 0x07 2) ≡ read (faulty 15 11) (alone_read 7 1023 2) [])
+    × (read_of (alone 8 0xff 0x07 1) ≡ read (faulty 15 11) (alone_read 8 1023 1) [])
+    × (read_of (alone 0 0x80 0x08 9) ≡ read (faulty 1 0) (alone_read 0 1024 9) [])
+    × (read_of (alone 1 0x80 0x08 8) ≡ read (faulty 1 0) (alone_read 1 1024 8) [])
+    × (read_of (alone 2 0x80 0x08 7) ≡ read (faulty 1 0) (alone_read 2 1024 7) [])
+    × (read_of (alone 3 0x80 0x08 6) ≡ read (faulty 1 0) (alone_read 3 1024 6) [])
+    × (read_of (alone 4 0x80 0x08 5) ≡ read (faulty 1 0) (alone_read 4 1024 5) [])
+    × (read_of (alone 5 0x80 0x08 4) ≡ read (faulty 1 0) (alone_read 5 1024 4) [])
+    × (read_of (alone 6 0x80 0x08 3) ≡ read (faulty 1 0) (alone_read 6 1024 3) [])
+    × (read_of (alone 7 0x80 0x08 2) ≡ read (faulty 1 0) (alone_read 7 1024 2) [])
+    × (read_of (alone 8 0x80 0x08 1) ≡ read (faulty 1 0) (alone_read 8 1024 1) [])
     -- flags 1,024 are no size: 2; with V = 1,024 beside them it is 1
-    × (read_of (alone 9 0x80 0x08 0) ≡ read (Faulty 2 0) (alone_read 9 1024 0) [])
-    × (read_of (alone 0 0x80 0x08 8 ++ (0x08 ∷ [])) ≡ read (Faulty 1 0) (alone_read 0 1024 8 ++ (8 ∷ [])) [])
+    × (read_of (alone 9 0x80 0x08 0) ≡ read (faulty 2 0) (alone_read 9 1024 0) [])
+    × (read_of (alone 0 0x80 0x08 8 ++ (0x08 ∷ [])) ≡ read (faulty 1 0) (alone_read 0 1024 8 ++ (8 ∷ [])) [])
     -- R of all five kinds: 200 + 201 + 202 + 203 + 217 is 1,023, and one more is 1
     × (read_of (replicate 4 0x00 ++ (0xc8 ∷ 0x01 ∷ 0xc9 ∷ 0x01 ∷ 0xca ∷ 0x01 ∷ 0xcb ∷ 0x01 ∷ 0xd9 ∷ 0x01 ∷ 0x00 ∷ []))
-    ≡ read (Faulty 15 15) (replicate 4 0 ++ (200 ∷ 201 ∷ 202 ∷ 203 ∷ 217 ∷ 0 ∷ [])) [])
+    ≡ read (faulty 15 15) (replicate 4 0 ++ (200 ∷ 201 ∷ 202 ∷ 203 ∷ 217 ∷ 0 ∷ [])) [])
     × (read_of (replicate 4 0x00 ++ (0xc8 ∷ 0x01 ∷ 0xc9 ∷ 0x01 ∷ 0xca ∷ 0x01 ∷ 0xcb ∷ 0x01 ∷ 0xda ∷ 0x01 ∷ 0x00 ∷ []))
-    ≡ read (Faulty 1 0) (replicate 4 0 ++ (200 ∷ 201 ∷ 202 ∷ 203 ∷ 218 ∷ 0 ∷ [])) [])
+    ≡ read (faulty 1 0) (replicate 4 0 ++ (200 ∷ 201 ∷ 202 ∷ 203 ∷ 218 ∷ 0 ∷ [])) [])
 unfolding read_of sheet_read lists_read numbers_at binary_at go_on_at too_large root_count code_count
 sizes_pinned = (refl, refl, refl, refl, refl, refl, refl, refl, refl, refl, refl, refl, refl, refl, refl, refl, refl, refl, refl, refl, refl, refl)
 
 -- twenty zeros and whatever follows them: of 60,000 bytes ten are read and the others are left; 60,001 are 1, and nothing is read
 pub longest_pinned : (rest over : List ℕ) → length rest ≡ 59980 → length over ≡ 59981
-    → (read_of (replicate 20 0x00 ++ rest) ≡ read (Faulty 2 0) (replicate 10 0) []) × (read_of (replicate 20 0x00 ++ over) ≡ read (Faulty 1 0) [] [])
+    → (read_of (replicate 20 0x00 ++ rest) ≡ read (faulty 2 0) (replicate 10 0) []) × (read_of (replicate 20 0x00 ++ over) ≡ read (faulty 1 0) [] [])
 unfolding read_of sheet_read lists_read numbers_at binary_at go_on_at too_large root_count code_count
 longest_pinned rest over r o = (rw r, rw o)
 
 -- 4. The words of the contracts: the answer is that of the definition, and what was read stands at the front of the lists, whose other cells stay.
 
 pub words_pinned :
-    (r : Ended) (s : Reading) (list header codes : List ℕ)
-    → (◌≡◌ {A = Type 0} (Fills (run (1 ∷ 2 ∷ []) (After 5)) r (7 ∷ 8 ∷ 9 ∷ []) list) ((r ≡ After 5) × (list ≡ 1 ∷ 2 ∷ 9 ∷ [])))
-    × (◌≡◌ {A = Type 0} (Reads (read Whole (1 ∷ 2 ∷ []) (3 ∷ [])) s (7 ∷ 8 ∷ 9 ∷ []) header (4 ∷ 5 ∷ []) codes)
-    ((s ≡ Whole) × (header ≡ 1 ∷ 2 ∷ 9 ∷ []) × (codes ≡ 3 ∷ 5 ∷ [])))
-    × (◌≡◌ {A = Type 0} (ReadsCodes (read Whole (1 ∷ 2 ∷ []) (3 ∷ [])) s (4 ∷ 5 ∷ []) codes) ((s ≡ Whole) × (codes ≡ 3 ∷ 5 ∷ [])))
-    × (offender none ≡ Nothing) × (offender (some 7) ≡ Over 7)
-words_pinned r s list header codes = (refl, refl, refl, refl, refl)
+    (r : Result ℕ Refused) (s : Result ⊤ Faulty) (list header codes : List ℕ)
+    → (◌≡◌ {A = Type 0} (Fills (run (1 ∷ 2 ∷ []) (Ok 5)) r (7 ∷ 8 ∷ 9 ∷ []) list) ((r ≡ Ok 5) × (list ≡ 1 ∷ 2 ∷ 9 ∷ [])))
+    × (◌≡◌ {A = Type 0} (Reads (read whole (1 ∷ 2 ∷ []) (3 ∷ [])) s (7 ∷ 8 ∷ 9 ∷ []) header (4 ∷ 5 ∷ []) codes)
+    ((s ≡ whole) × (header ≡ 1 ∷ 2 ∷ 9 ∷ []) × (codes ≡ 3 ∷ 5 ∷ [])))
+    × (◌≡◌ {A = Type 0} (ReadsCodes (read whole (1 ∷ 2 ∷ []) (3 ∷ [])) s (4 ∷ 5 ∷ []) codes) ((s ≡ whole) × (codes ≡ 3 ∷ 5 ∷ [])))
+    × (◌≡◌ {A = Result ⊤ Faulty} (Err (faulty_number (record { why = TooLong; place = 7 }))) (faulty 16 7))
+words_pinned r s list header codes = (refl, refl, refl, refl)
 
 -- headers that pass the first nine sizes, and those that are taken: ten numbers; nine and eleven are not. With flags over their limit and R over its own the
 -- nine pass, and the header is not taken; the eighth root count is one of the nine

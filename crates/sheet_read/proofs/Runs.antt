@@ -6,13 +6,12 @@ use native.Mathlib.Numerals.{add-one}
 use native.Mathlib.Omega.{arith}
 use lib.ListN.{length, set, take, drop, length-set, take-append-drop}
 use lib.Seq.{take-suc-set, drop-set-lt, length-take-le, drop-drop}
-use Rattle.token.specs.Answer.{binary_at}
-use Rattle.token.specs.declared.Reason.{Reason}
-use Rattle.token.specs.declared.Token.{Token}
-use Rattle.token.specs.declared.Token.TheVariants.{Value, Refused}
+use Rattle.std.specs.Prelude.{Ok, Err}
+use Rattle.token.specs.Answer.{Token, binary_at}
+use Rattle.token.specs.declared.Number.{Number}
+use Rattle.token.specs.declared.Refused.{Refused}
 use Rattle.circuit.specs.Outcome.{onto}
 use Rattle.circuit.proofs.Outcome.{onto_long}
-use Rattle.sheet_read.specs.declared.Ended.TheVariants.{After, Broken}
 use Rattle.sheet_read.specs.Sheet.{Run, run_of, prepended, onward, numbers_at}
 use Rattle.sheet_read.specs.Promise.{Fills}
 
@@ -26,21 +25,18 @@ pub record Filling (s : List ℕ) (at : ℕ) (list₀ list : List ℕ) (i place 
   pub rest : drop i list ≡ drop i list₀
   pub run : numbers_at s at (length list₀) ≡ behind (take i list) (numbers_at s place (length list₀ - i))
 
-pub filling_none : (s : List ℕ) (at : ℕ) (list : List ℕ) → Filling s at list list 0 at
-filling_none s at list =
-    let all : length list ≡ length list - 0 = omega arith in
-    record { inside = omega arith; same = refl; rest = refl; run = ap (numbers_at s at) all }
-
 module _ {s : List ℕ} {at : ℕ} {list₀ list : List ℕ} {i place : ℕ} (f : Filling s at list₀ list i place) where
   one_more : i < length list₀ → numbers_at s place (length list₀ - i) ≡ onward (binary_at s place)
       (λ v used. prepended v (numbers_at s (place + used) (length list₀ - (i + 1))))
   unfolding numbers_at
   one_more h = let e : length list₀ - i ≡ suc (length list₀ - (i + 1)) = omega arith in ap (numbers_at s place) e
 
-  pub filling_more : (v used : ℕ) → i < length list₀ → binary_at s place ≡ Value v used → Filling s at list₀ (set list i v) (i + 1) (place + used)
-  filling_more v used h e =
+  pub filling_more : (t : Number) → i < length list₀ → binary_at s place ≡ Ok t → Filling s at list₀ (set list i t.value) (i + 1) (place + t.used)
+  filling_more t h e =
+      let v : ℕ = t.value in
+      let used : ℕ = t.used in
       let next : numbers_at s place (length list₀ - i) ≡ prepended v (numbers_at s (place + used) (length list₀ - (i + 1))) =
-      one_more h ∙ ap (λ (t : Token). onward t (λ x u. prepended x (numbers_at s (place + u) (length list₀ - (i + 1))))) e in
+      one_more h ∙ ap (λ (r : Token). onward r (λ x u. prepended x (numbers_at s (place + u) (length list₀ - (i + 1))))) e in
       let r : Run = numbers_at s (place + used) (length list₀ - (i + 1)) in
       let front : take (i + 1) (set list i v) ≡ take i list ++ (v ∷ []) = ap (λ (k : ℕ). take k (set list i v)) (add-one i)
       ∙ take-suc-set list i v (omega (arith, f.same)) in
@@ -77,17 +73,16 @@ module _ {s : List ℕ} {at : ℕ} {list₀ list : List ℕ} {i place : ℕ} (f 
       ∙ append-nil (take i list) in
       (sym (ap (λ (x : Run). x.ended) e), left (numbers_at s at (length list₀)).numbers ns)
 
-  pub filling_broken : (why : Reason) (p : ℕ) → i < length list₀ → binary_at s place ≡ Refused why p
-      → Fills (numbers_at s at (length list₀)) (Broken why p) list₀ list
-  filling_broken why p h e =
-      ending (run_of [] (Broken why p)) refl
-      (f.run ∙ ap (behind (take i list)) (one_more h ∙ ap (λ (t : Token). onward t (λ x u. prepended x (numbers_at s (place + u) (length list₀ - (i + 1))))) e))
+  pub filling_broken : (e : Refused) → i < length list₀ → binary_at s place ≡ Err e → Fills (numbers_at s at (length list₀)) (Err e) list₀ list
+  filling_broken r h e =
+      ending (run_of [] (Err r)) refl
+      (f.run ∙ ap (behind (take i list)) (one_more h ∙ ap (λ (r : Token). onward r (λ x u. prepended x (numbers_at s (place + u) (length list₀ - (i + 1))))) e))
 
-  pub filling_all : length list₀ ≤ i → Fills (numbers_at s at (length list₀)) (After place) list₀ list
+  pub filling_all : length list₀ ≤ i → Fills (numbers_at s at (length list₀)) (Ok place) list₀ list
   unfolding numbers_at
   filling_all h =
       let none : length list₀ - i ≡ 0 = omega arith in
-      ending (run_of [] (After place)) refl (f.run ∙ ap (λ (n : ℕ). behind (take i list) (numbers_at s place n)) none)
+      ending (run_of [] (Ok place)) refl (f.run ∙ ap (λ (n : ℕ). behind (take i list) (numbers_at s place n)) none)
 
 -- how many numbers a run has: n where it ends after them, n at most
 
@@ -98,16 +93,16 @@ run_few s at (suc n) = go (binary_at s at) (λ used. run_few s (at + used) n)
   where
     go : (t : Token) → ((used : ℕ) → length (numbers_at s (at + used) n).numbers ≤ n)
         → length (onward t (λ v used. prepended v (numbers_at s (at + used) n))).numbers ≤ suc n
-    go (Value v used) rest = omega (arith, rest used)
-    go (Refused why place) rest = omega arith
+    go (Ok t) rest = omega (arith, rest t.used)
+    go (Err e) rest = omega arith
 
-pub run_whole : (s : List ℕ) (at n place : ℕ) → (numbers_at s at n).ended ≡ After place → length (numbers_at s at n).numbers ≡ n
+pub run_whole : (s : List ℕ) (at n place : ℕ) → (numbers_at s at n).ended ≡ Ok place → length (numbers_at s at n).numbers ≡ n
 unfolding numbers_at
 run_whole s at zero place e = refl
 run_whole s at (suc n) place e = go (binary_at s at) (λ used. run_whole s (at + used) n place) e
   where
-    go : (t : Token) → ((used : ℕ) → (numbers_at s (at + used) n).ended ≡ After place → length (numbers_at s (at + used) n).numbers ≡ n)
-        → (onward t (λ v used. prepended v (numbers_at s (at + used) n))).ended ≡ After place
+    go : (t : Token) → ((used : ℕ) → (numbers_at s (at + used) n).ended ≡ Ok place → length (numbers_at s (at + used) n).numbers ≡ n)
+        → (onward t (λ v used. prepended v (numbers_at s (at + used) n))).ended ≡ Ok place
         → length (onward t (λ v used. prepended v (numbers_at s (at + used) n))).numbers ≡ suc n
-    go (Value v used) rest k = let f = rest used k in omega (arith, f)
-    go (Refused why p) rest k = absurd (let z : ◌≡◌ {A = ℕ} 0 1 = cc in omega arith)
+    go (Ok t) rest k = let f = rest t.used k in omega (arith, f)
+    go (Err e) rest k = cc

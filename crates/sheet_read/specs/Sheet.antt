@@ -1,24 +1,19 @@
 -- Reading a sheet: ten numbers, then the codes of the lists they announce, and not a byte more. Assumes nothing.
-use Rattle.std.specs.Prelude.{ℕ, zero, suc, ◌+◌, ◌*◌, Bool, true, false, cond, ◌||◌, List, [], ◌∷◌, eqb, ltb, length, get_or, take, drop}
-use Rattle.std.proofs.Math.Option.{Option, none, some}
-use Rattle.token.specs.Answer.{reason_number, binary_at}
-use Rattle.token.specs.declared.Token.{Token}
-use Rattle.token.specs.declared.Token.TheVariants.{Value, Refused}
+use Rattle.std.specs.Prelude.{ℕ, zero, suc, ◌+◌, ◌*◌, Bool, cond, ◌||◌, List, [], ◌∷◌, eqb, ltb, length, get_or, take, drop, ⊤, is_some, Result, Ok, Err}
+use Rattle.token.specs.Answer.{Token, reason_number, binary_at}
+use Rattle.token.specs.declared.Refused.{Refused}
 use Rattle.circuit.specs.Circuit.{first_over}
 use Rattle.circuit.specs.Outcome.{total}
-use Rattle.sheet_read.specs.declared.Ended.{Ended}
-use Rattle.sheet_read.specs.declared.Ended.TheVariants.{After, Broken}
-use Rattle.sheet_read.specs.declared.Reading.{Reading}
-use Rattle.sheet_read.specs.declared.Reading.TheVariants.{Whole, Faulty}
+use Rattle.sheet_read.specs.declared.Faulty.{Faulty}
 
 -- numbers in groups of seven bits, one after the other
 
 -- the numbers read, and the place after them, or why the next one is refused and where it stands
 pub record Run : Type 0 where
   pub numbers : List ℕ
-  pub ended : Ended
+  pub ended : Result ℕ Refused
 
-abbrev pub run_of : List ℕ → Ended → Run
+abbrev pub run_of : List ℕ → Result ℕ Refused → Run
 run_of ns e = record { numbers = ns; ended = e }
 
 abbrev pub prepended : ℕ → Run → Run
@@ -26,12 +21,12 @@ prepended v r = run_of (v ∷ r.numbers) r.ended
 
 -- a number as it is read: a refusal ends the run, else the number and the bytes it took lead on
 abbrev pub onward : Token → (ℕ → ℕ → Run) → Run
-onward (Value v used) go = go v used
-onward (Refused why place) go = run_of [] (Broken why place)
+onward (Ok t) go = go t.value t.used
+onward (Err e) go = run_of [] (Err e)
 
 -- n numbers from a place on
 unfoldable pub numbers_at : List ℕ → ℕ → ℕ → Run
-numbers_at s at zero = run_of [] (After at)
+numbers_at s at zero = run_of [] (Ok at)
 numbers_at s at (suc n) = onward (binary_at s at) (λ v used. prepended v (numbers_at s (at + used) n))
 
 -- the header's ten numbers
@@ -67,14 +62,9 @@ sheet_limit = 60000
 abbrev pub size_limit : ℕ
 size_limit = 1023
 
--- whether a code was found
-abbrev pub is_found : Option ℕ → Bool
-is_found none = false
-is_found (some c) = true
-
 -- one of the first nine numbers, or R, is over 1,023
 unfoldable pub too_large : List ℕ → Bool
-too_large h = is_found (first_over size_limit (take 9 h)) || ltb size_limit (root_count h)
+too_large h = is_some (first_over size_limit (take 9 h)) || ltb size_limit (root_count h)
 
 -- how many codes follow: inputs, three of each gate, two of each latch, roots
 unfoldable pub code_count : List ℕ → ℕ
@@ -86,34 +76,46 @@ announced h = cond (eqb (length h) 10) (cond (too_large h) 0 (code_count h)) 0
 
 -- the whole sheet
 
+-- it is taken
+abbrev pub whole : Result ⊤ Faulty
+whole = Ok tt
+
+-- or it is not: a refusal's number, and what is printed beside it
+abbrev pub faulty : ℕ → ℕ → Result ⊤ Faulty
+faulty number beside = Err (record { number = number; beside = beside })
+
+-- a number that is refused: its reason's number, and its place beside it
+abbrev pub faulty_number : Refused → Faulty
+faulty_number e = record { number = reason_number e.why; beside = e.place }
+
 -- whether it is taken, the header's numbers and the codes as far as they were read
 pub record Read : Type 0 where
-  pub reading : Reading
+  pub reading : Result ⊤ Faulty
   pub header : List ℕ
   pub codes : List ℕ
 
-abbrev pub read_as : Reading → List ℕ → List ℕ → Read
+abbrev pub read_as : Result ⊤ Faulty → List ℕ → List ℕ → Read
 read_as reading header codes = record { reading = reading; header = header; codes = codes }
 
 -- the codes are read: a byte that is left is 2
-abbrev pub codes_read : List ℕ → List ℕ → List ℕ → Ended → Read
-codes_read s h cs (After at) = cond (ltb at (length s)) (read_as (Faulty 2 0) h cs) (read_as Whole h cs)
-codes_read s h cs (Broken why place) = read_as (Faulty (reason_number why) place) h cs
+abbrev pub codes_read : List ℕ → List ℕ → List ℕ → Result ℕ Refused → Read
+codes_read s h cs (Ok at) = cond (ltb at (length s)) (read_as (faulty 2 0) h cs) (read_as whole h cs)
+codes_read s h cs (Err e) = read_as (Err (faulty_number e)) h cs
 
 -- the header is passed: then the codes, all in a row
 unfoldable pub lists_read : List ℕ → List ℕ → Run → Read
 lists_read s h r = codes_read s h r.numbers r.ended
 
 -- the ten numbers are read: sizes over their limit are 1, then flags over 7 are 2
-abbrev pub header_read : List ℕ → List ℕ → Ended → Read
-header_read s h (After at) =
-    cond (too_large h) (read_as (Faulty 1 0) h [])
-    (cond (ltb 7 (flags_of h)) (read_as (Faulty 2 0) h []) (lists_read s h (numbers_at s at (code_count h))))
-header_read s h (Broken why place) = read_as (Faulty (reason_number why) place) h []
+abbrev pub header_read : List ℕ → List ℕ → Result ℕ Refused → Read
+header_read s h (Ok at) =
+    cond (too_large h) (read_as (faulty 1 0) h [])
+    (cond (ltb 7 (flags_of h)) (read_as (faulty 2 0) h []) (lists_read s h (numbers_at s at (code_count h))))
+header_read s h (Err e) = read_as (Err (faulty_number e)) h []
 
 -- a sheet over 60,000 bytes is 1; then the ten numbers
 unfoldable pub sheet_read : List ℕ → Run → Read
-sheet_read s r = cond (ltb sheet_limit (length s)) (read_as (Faulty 1 0) [] []) (header_read s r.numbers r.ended)
+sheet_read s r = cond (ltb sheet_limit (length s)) (read_as (faulty 1 0) [] []) (header_read s r.numbers r.ended)
 
 unfoldable pub read_of : List ℕ → Read
 read_of s = sheet_read s (numbers_at s 0 10)

@@ -3,9 +3,10 @@
 use mathlib.Core.Path.{◌≡◌, refl, sym, ap, ◌∙◌}
 use mathlib.Core.Bool.{cond}
 use mathlib.Core.List.{List, [], ◌∷◌, ◌++◌}
-use Prim.Native.Nat.{ℕ, zero, suc, ◌+◌, ◌-◌, ◌/◌, ◌%◌, ◌^◌, ◌≤◌, ◌<◌}
+use Prim.Native.Nat.{ℕ, zero, suc, ◌+◌, ◌-◌, ◌*◌, ◌/◌, ◌%◌, ◌^◌, ◌≤◌, ◌<◌}
+use native.Mathlib.Nat.{pow-suc, one-le-pow}
 use native.Mathlib.Omega.{arith}
-use lib.Dec.{ltb}
+use lib.Dec.{ltb, lit≤}
 use lib.ListN.{length, set, length-set, length-append}
 use borrow.Author.Tests.{lt-ltb, le-ltb}
 use Rattle.token.specs.Format.{digits_up_to, digits_of}
@@ -39,35 +40,14 @@ count_1 v h = ap length (digits_one v h)
 pub count_more : (v : ℕ) → 10 ≤ v → v < 2 ^ 64 → length (digits_of v) ≡ length (digits_of (v / 10)) + 1
 count_more v ten fits = ap length (digits_last v ten fits) ∙ length-append (digits_of (v / 10)) ((48 + v % 10) ∷ [])
 
-pub count-2 : (v : ℕ) → 10 ≤ v → v < 100 → length (digits_of v) ≡ 2
-count-2 v low high = omega (arith, count_more v low (omega arith), count_1 (v / 10) (omega arith))
-
-pub count_3 : (v : ℕ) → 100 ≤ v → v < 1000 → length (digits_of v) ≡ 3
-count_3 v low high = omega (arith, count_more v (omega arith) (omega arith), count-2 (v / 10) (omega arith) (omega arith))
-
-pub count_4 : (v : ℕ) → 1000 ≤ v → v < 10000 → length (digits_of v) ≡ 4
-count_4 v low high = omega (arith, count_more v (omega arith) (omega arith), count_3 (v / 10) (omega arith) (omega arith))
-
-pub count_5 : (v : ℕ) → 10000 ≤ v → v < 100000 → length (digits_of v) ≡ 5
-count_5 v low high = omega (arith, count_more v (omega arith) (omega arith), count_4 (v / 10) (omega arith) (omega arith))
-
-pub count_6 : (v : ℕ) → 100000 ≤ v → v < 1000000 → length (digits_of v) ≡ 6
-count_6 v low high = omega (arith, count_more v (omega arith) (omega arith), count_5 (v / 10) (omega arith) (omega arith))
-
-pub count_7 : (v : ℕ) → 1000000 ≤ v → v < 10000000 → length (digits_of v) ≡ 7
-count_7 v low high = omega (arith, count_more v (omega arith) (omega arith), count_6 (v / 10) (omega arith) (omega arith))
-
-pub count_seven : (v : ℕ) → 10000000 ≤ v → v < 2 ^ 64 → length (digits_of v) ≡ 7 + length (digits_of (v / 10000000))
-count_seven v low fits =
-    let same : v / 10 / 10 / 10 / 10 / 10 / 10 / 10 ≡ v / 10000000 = omega arith in
-    let one = count_more v (omega arith) fits in
-    let two = count_more (v / 10) (omega arith) (omega arith) in
-    let three = count_more (v / 10 / 10) (omega arith) (omega arith) in
-    let four = count_more (v / 10 / 10 / 10) (omega arith) (omega arith) in
-    let five = count_more (v / 10 / 10 / 10 / 10) (omega arith) (omega arith) in
-    let six = count_more (v / 10 / 10 / 10 / 10 / 10) (omega arith) (omega arith) in
-    let seven = count_more (v / 10 / 10 / 10 / 10 / 10 / 10) (omega arith) (omega arith) in
-    omega (arith, ap (λ (x : ℕ). length (digits_of x)) same)
+-- from each power of ten on a digit more
+pub count_power : (k v : ℕ) → 10 ^ k ≤ v → v < 10 * 10 ^ k → v < 2 ^ 64 → length (digits_of v) ≡ k + 1
+count_power zero v low high fits = count_1 v (omega arith)
+count_power (suc k) v low high fits =
+    let p : 10 ^ k * 10 ≤ v = rw pow-suc at low in
+    let q : v < 10 * (10 ^ k * 10) = rw pow-suc at high in
+    let some : 1 ≤ 10 ^ k = one-le-pow k 10 (lit≤ tt) in
+    omega (arith, count_more v (omega arith) fits, count_power k (v / 10) (omega arith) (omega arith) (omega arith))
 
 -- the digits of v are put from a place on, the last of them first: those of `rest` are left, and the last of these goes to `place`
 pub record Filling (out₀ : List ℕ) (at v : ℕ) (out : List ℕ) (place rest : ℕ) : Type 0 where

@@ -3,10 +3,11 @@
 use mathlib.Core.Path.{◌≡◌, refl, sym, ap, ◌∙◌}
 use mathlib.Core.Bool.{cond}
 use mathlib.Core.List.{List, [], ◌∷◌, ◌++◌}
-use Prim.Native.Nat.{ℕ, zero, suc, ◌+◌, ◌/◌, ◌%◌, ◌^◌, ◌≤◌, ◌<◌}
+use Prim.Native.Nat.{ℕ, zero, suc, ◌+◌, ◌-◌, ◌*◌, ◌/◌, ◌%◌, ◌^◌, ◌≤◌, ◌<◌}
 use native.Mathlib.Numerals.{add-one}
+use native.Mathlib.Nat.{pow-suc, one-le-pow, pow-le-pow_right}
 use native.Mathlib.Omega.{arith}
-use lib.Dec.{ltb}
+use lib.Dec.{ltb, lit<, lit≤}
 use lib.ListN.{length, set, length-set}
 use borrow.Author.Tests.{lt-ltb, le-ltb}
 use Rattle.token.specs.Format.{groups_up_to, shortest}
@@ -43,11 +44,18 @@ count-2 d low high = omega (arith, count_more d low (omega arith), count_1 (d / 
 pub count_3 : (d : ℕ) → 16384 ≤ d → d < 2097152 → length (shortest d) ≡ 3
 count_3 d low high = omega (arith, count_more d (omega arith) (omega arith), count-2 (d / 128) (omega arith) (omega arith))
 
-pub count_4 : (d : ℕ) → 2097152 ≤ d → d < 268435456 → length (shortest d) ≡ 4
-count_4 d low high = omega (arith, count_more d (omega arith) (omega arith), count_3 (d / 128) (omega arith) (omega arith))
-
-pub count_5 : (d : ℕ) → 268435456 ≤ d → d < 34359738368 → length (shortest d) ≡ 5
-count_5 d low high = omega (arith, count_more d (omega arith) (omega arith), count_4 (d / 128) (omega arith) (omega arith))
+-- from each seventh power of two on a group more
+pub count_log : (k r d : ℕ) → k * 7 ≤ r → r < k * 7 + 7 → 2 ^ r ≤ d → d < 2 * 2 ^ r → d < 2 ^ 56 → length (shortest d) ≡ k + 1
+count_log zero r d least most low high fits =
+    let few : r ≤ 6 = omega arith in
+    let small : 2 ^ r ≤ 2 ^ 6 = pow-le-pow_right (lit< tt) few in
+    count_1 d (omega arith)
+count_log (suc k) r d least most low high fits =
+    let q : ℕ = r - 7 in
+    let seven : r ≡ suc (suc (suc (suc (suc (suc (suc q)))))) = omega arith in
+    let big : 2 ^ r ≡ 2 ^ q * 128 = ap (λ (i : ℕ). 2 ^ i) seven ∙ simp pow-suc (omega arith) in
+    let some : 1 ≤ 2 ^ q = one-le-pow q 2 (lit≤ tt) in
+    omega (arith, count_more d (omega arith) fits, count_log k q (d / 128) (omega arith) (omega arith) (omega arith) (omega arith) (omega arith))
 
 -- the groups of d are put from a place on, the first of them first: those of `rest` are left, and go to `place`
 pub record Grouping (out₀ : List ℕ) (at d : ℕ) (out : List ℕ) (place rest : ℕ) : Type 0 where

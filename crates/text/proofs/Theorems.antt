@@ -8,8 +8,7 @@ use lib.Seq.{length-take-le, take-append_seam}
 use Rattle.promise.specs.Determined.{DeterminesCells}
 use Rattle.place.specs.Place.{last, further}
 use Rattle.token.specs.Format.{leading, is_digit, digits_of, shortest}
-use Rattle.token.specs.Answer.{uint_at, binary_at}
-use Rattle.token.specs.declared.Token.TheVariants.{Value}
+use Rattle.token.specs.Answer.{value, uint_at, binary_at}
 use Rattle.token.proofs.Theorems.{decimal_reads_back, shortest_reads_back}
 use Rattle.text.specs.Put.{put_all}
 use Rattle.text.proofs.Puts as puts
@@ -68,7 +67,7 @@ measured bs short = (puts.put_all_past [] 0 bs (omega arith), omega arith)
 
 pub printed_reads_back : (out : List ℕ) (at v : ℕ) → v < 2 ^ 64 → at + length (digits_of v) ≤ length out
     → leading is_digit (drop (at + length (digits_of v)) out) ≡ 0
-    → uint_at (put_all out at (digits_of v)) at ≡ Value v (length (digits_of v))
+    → uint_at (put_all out at (digits_of v)) at ≡ value v (length (digits_of v))
 printed_reads_back out at v fits room stop =
     let before : length (take at out) ≡ at = length-take-le at out (omega arith) in
     ap (λ (l : List ℕ). uint_at l at) (puts.put_all_fits out at (digits_of v) room)
@@ -76,7 +75,7 @@ printed_reads_back out at v fits room stop =
     ∙ decimal_reads_back v fits (take at out) (drop (at + length (digits_of v)) out) stop
 
 pub groups_read_back : (out : List ℕ) (at d : ℕ) → d < 2 ^ 56 → at + length (shortest d) ≤ length out
-    → binary_at (put_all out at (shortest d)) at ≡ Value d (length (shortest d))
+    → binary_at (put_all out at (shortest d)) at ≡ value d (length (shortest d))
 groups_read_back out at d fits room =
     let before : length (take at out) ≡ at = length-take-le at out (omega arith) in
     ap (λ (l : List ℕ). binary_at l at) (puts.put_all_fits out at (shortest d) room)

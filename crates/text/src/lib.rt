@@ -5,7 +5,7 @@
 ghost use Rattle.std.specs.Prelude.{◌≡◌, ◌+◌, ◌<◌, ◌≤◌, length, set};
 ghost use Rattle.place.specs.Place.{further};
 ghost use Rattle.token.specs.Format.{digits_of, shortest};
-ghost use Rattle.text.specs.Put.{put_all};
+ghost use Rattle.text.specs.Put.{put_all, Puts};
 
 // One byte at a place, if the place is there.
 fn store(out: &mut [u8], at: usize, b: u8)
@@ -26,13 +26,11 @@ pub fn put(out: &mut [u8], at: usize, b: u8) -> usize
 
 // Bytes from a place on, as far as they fit; the place after them.
 pub fn put_bytes(out: &mut [u8], at: usize, s: &[u8]) -> usize
-    ensures { (out.new ≡ put_all out.old at s.now) × (result ≡ further at (length s.now)) }
+    ensures { Puts out.old at s.now out.new result }
 {
-    let mut i: usize = 0;
     let mut place = at;
-    while i < s.len() {
-        place = put(out, place, s[i]);
-        i += 1;
+    for &b in s {
+        place = put(out, place, b);
     }
     place
 }
@@ -45,43 +43,14 @@ fn digit(d: u64) -> u8
     b'0' + d as u8
 }
 
-// How many decimal digits a number below 10,000,000 has.
-fn few_digits(v: u64) -> usize
-    requires { v < 10000000 }
-    ensures { result ≡ length (digits_of v) }
-{
-    if 100000 <= v {
-        if v < 1000000 {
-            return 6;
-        }
-        return 7;
-    }
-    if 10000 <= v {
-        return 5;
-    }
-    if v < 10 {
-        return 1;
-    }
-    if v < 100 {
-        return 2;
-    }
-    if v < 1000 {
-        return 3;
-    }
-    4
-}
-
 // How many decimal digits a number has.
 fn digit_count(v: u64) -> usize
     ensures { result ≡ length (digits_of v) }
 {
-    let mut n: usize = 0;
-    let mut rest = v;
-    while 10000000 <= rest {
-        n += 7;
-        rest = rest / 10000000;
+    if v < 10 {
+        return 1;
     }
-    n + few_digits(rest)
+    v.ilog10() as usize + 1
 }
 
 // The decimal digits of a number from a place on, where all of them fit. They are made from the last one to the first.
@@ -91,6 +60,7 @@ fn digits_from(out: &mut [u8], at: usize, v: u64, n: usize)
 {
     let mut place = at + n - 1;
     let mut rest = v;
+    // a `while`, since the digits come of what is left of the number and not of a list
     while 10 <= rest {
         out[place] = digit(rest % 10);
         place -= 1;
@@ -101,7 +71,7 @@ fn digits_from(out: &mut [u8], at: usize, v: u64, n: usize)
 
 // The decimal digits of a number, as far as they fit; the place after them.
 pub fn put_decimal(out: &mut [u8], at: usize, v: u64) -> usize
-    ensures { (out.new ≡ put_all out.old at (digits_of v)) × (result ≡ further at (length (digits_of v))) }
+    ensures { Puts out.old at (digits_of v) out.new result }
 {
     let n = digit_count(v);
     if out.len() <= at {
@@ -123,27 +93,19 @@ fn group_count(d: u32) -> usize
     if d < 128 {
         return 1;
     }
-    if d < 16384 {
-        return 2;
-    }
-    if d < 2097152 {
-        return 3;
-    }
-    if d < 268435456 {
-        return 4;
-    }
-    5
+    d.ilog2() as usize / 7 + 1
 }
 
 // A number in groups of seven bits, the low group first, in its fewest bytes, as far as they fit; the place after them.
 pub fn put_groups(out: &mut [u8], at: usize, d: u32) -> usize
-    ensures { (out.new ≡ put_all out.old at (shortest d)) × (result ≡ further at (length (shortest d))) }
+    ensures { Puts out.old at (shortest d) out.new result }
 {
     if out.len() <= at {
         return place::further(at, group_count(d));
     }
     let mut place = at;
     let mut rest = d;
+    // a `while`, since the groups come of what is left of the number and not of a list
     while 128 <= rest {
         store(out, place, (128 + rest % 128) as u8);
         place += 1;

@@ -2,21 +2,20 @@
 use mathlib.Core.Path.{◌≡◌, refl, sym, ap, ◌∙◌}
 use mathlib.Core.Bool.{Bool, true, false, ◌&&◌, and-false}
 use mathlib.Core.List.{List, [], ◌∷◌, ◌++◌}
-use Prim.Native.Nat.{ℕ, suc, ◌+◌, ◌-◌, ◌*◌, ◌/◌, ◌^◌, ◌≤◌, ◌<◌}
-use mir.Syntax.{w64}
-use mir.Val.{Fits}
+use mathlib.Core.Logic.{inl, inr}
+use Prim.Native.Nat.{ℕ, suc, ◌+◌, ◌-◌, ◌*◌, ◌^◌, ◌≤◌, ◌<◌}
 use native.Mathlib.Nat.{add-zero}
 use native.Mathlib.Omega.{arith}
 use native.Mathlib.Numerals.{add-one}
 use lib.Dec.{ltb, leb}
 use lib.ListN.{length, get_or, take, drop, length-drop}
 use lib.Seq.{take-suc, take-add, get_or-drop, drop-cons}
-use borrow.Author.Tests.{leb-true, leb-false, ltb-true, ltb-false, le-leb, lt-leb, lt-ltb, le-ltb, ne_eqb}
+use borrow.Author.Tests.{leb-true, ltb-true, ltb-false, le-leb, lt-leb, lt-ltb, le-ltb, ne_eqb}
+use Rattle.std.specs.Prelude.{MatchBool}
+use Rattle.std.specs.Char.{IsAsciiDigit, IsNotAsciiDigit}
 use Rattle.token.specs.Format.{is_digit, decimal_from, decimal_value}
-use Rattle.token.specs.Answer.{digits_at, fitting, uint_at}
+use Rattle.token.specs.Answer.{digits_at, fitting, uint_at, Token, refused, value}
 use Rattle.token.specs.declared.Reason.TheVariants.{NoDigit, LeadingZero, OverWidth}
-use Rattle.token.specs.declared.Token.{Token}
-use Rattle.token.specs.declared.Token.TheVariants.{Value, Refused}
 use Rattle.token.proofs.Runs.{leading_le, leading_at}
 
 -- a digit, and what is none
@@ -92,29 +91,16 @@ digits_some s at h =
     let first : get_or (drop at s) 0 0 ≡ get_or s at 0 = get_or-drop at s 0 0 ∙ ap (λ (i : ℕ). get_or s i 0) (add-zero at) in
     (omega (arith, digits_within s at), rw (← first) (leading_at is_digit (drop at s) 0 h))
 
--- the test of a byte that is not below `0`
-pub digit_tested : (s : List ℕ) (at : ℕ) → at < length s → 48 ≤ get_or s at 0 → leb (get_or s at 0) 57 ≡ ltb 0 (digits_at s at)
-digit_tested s at h low = go (leb (get_or s at 0) 57) refl
+-- the test of a byte
+pub digit_tested : {t : Bool} (s : List ℕ) (at b : ℕ) → at < length s → b ≡ get_or s at 0 → MatchBool t (IsAsciiDigit b) (IsNotAsciiDigit b)
+    → t ≡ ltb 0 (digits_at s at)
+digit_tested {t} s at b there byte is = go t is
   where
-    go : (t : Bool) → leb (get_or s at 0) 57 ≡ t → t ≡ ltb 0 (digits_at s at)
-    go true e =
-        rw (
-          digits_more s at (get_or s at 0) h refl (digit_yes (get_or s at 0) low (omega (arith, leb-true (get_or s at 0) 57 e))),
-          lt-ltb 0
-              (suc (digits_at s (at + 1))) (omega arith),
-        )
-    go false e = rw (digits_none s at (get_or s at 0) h refl (digit_over (get_or s at 0) (leb-false (get_or s at 0) 57 e)))
-
--- whether one digit more is too much: below a tenth of the largest number it is not; and what the test says
-
-pub over_not : (v d : ℕ) → d ≤ 9 → v < 1844674407370955161 → false ≡ ltb ((18446744073709551615 - d) / 10) v
-over_not v d small low = sym (le-ltb ((18446744073709551615 - d) / 10) v (omega arith))
-
-pub over_false : {t : Bool} (v d : ℕ) → t ≡ ltb ((18446744073709551615 - d) / 10) v → t ≡ false → v ≤ (18446744073709551615 - d) / 10
-over_false v d told left = ltb-false ((18446744073709551615 - d) / 10) v (sym told ∙ left)
-
-pub over_true : {t : Bool} (v d : ℕ) → t ≡ ltb ((18446744073709551615 - d) / 10) v → t ≡ true → (18446744073709551615 - d) / 10 < v
-over_true v d told taken = ltb-true ((18446744073709551615 - d) / 10) v (sym told ∙ taken)
+    go : (u : Bool) → MatchBool u (IsAsciiDigit b) (IsNotAsciiDigit b) → u ≡ ltb 0 (digits_at s at)
+    go true h = rw (digits_more s at b there (sym byte) (digit_yes b h.0 (omega (arith, h.1))), lt-ltb 0 (suc (digits_at s (at + 1))) (omega arith))
+    go false h =
+        let none : digits_at s at ≡ 0 = elim h [ inl low ↦ digits_none s at b there (sym byte) (digit_under b low) | inr high ↦ digits_none s at b there (sym byte) (digit_over b (omega arith)) ] in
+        rw none
 
 -- a loop over the digits at a place: n of them are passed, and write v
 
@@ -132,36 +118,31 @@ abbrev pub decimal_at : List ℕ → ℕ → Token
 decimal_at s at = fitting (decimal_value (take (digits_at s at) (drop at s))) (digits_at s at) at
 
 module _ {s : List ℕ} {at n v : ℕ} (p : DigitsPassed s at n v) where
-  -- the place reached is one, and a turn more comes to another, where the bytes are fewer than 2 ^ 63
-  pub digits_passed_place : length s * 1 < 2 ^ 63 → Fits w64 (at + n)
-  digits_passed_place room = record { fits = omega (arith, p.inside) }
-
-  pub digits_passed_count : length s * 1 < 2 ^ 63 → Fits w64 (n + 1)
-  digits_passed_count room = record { fits = omega (arith, p.inside) }
-
   -- no digit stands there: all are passed
-  pub digits_passed_end : {t : Bool} → t ≡ ltb 0 (digits_at s (at + n)) → t ≡ false → Value v n ≡ decimal_at s at
+  pub digits_passed_end : {t : Bool} → t ≡ ltb 0 (digits_at s (at + n)) → t ≡ false → value v n ≡ decimal_at s at
   digits_passed_end told left =
       let none : digits_at s (at + n) ≤ 0 = ltb-false 0 (digits_at s (at + n)) (sym told ∙ left) in
       let all : n ≡ digits_at s at = omega (arith, p.rest) in
       rw (← all, ← p.means, lt-ltb v (2 ^ 64) p.fits)
+
+  -- the end: all are passed, and all bytes are
+  pub digits_passed_past : length s ≤ at + n → value v (length s - at) ≡ decimal_at s at
+  digits_passed_past h =
+      let none : digits_at s (at + n) ≡ 0 = digits_end s (at + n) h in
+      let all : digits_at s at ≡ n = omega (arith, p.rest) in
+      let whole : length s - at ≡ n = omega (arith, p.inside) in
+      rw (all, whole, ← p.means, lt-ltb v (2 ^ 64) p.fits)
 
   -- a digit stands there
   module _ {t : Bool} (told : t ≡ ltb 0 (digits_at s (at + n))) (yes : t ≡ true) where
     some : 0 < digits_at s (at + n)
     some = ltb-true 0 (digits_at s (at + n)) (sym told ∙ yes)
 
-    pub digit_there : at + n < length s
+    digit_there : at + n < length s
     digit_there = (digits_some s (at + n) some).0
 
     digit_is : (48 ≤ get_or s (at + n) 0) × (get_or s (at + n) 0 < 58)
     digit_is = digit_low (get_or s (at + n) 0) (digits_some s (at + n) some).1
-
-    pub digit_least : 48 ≤ get_or s (at + n) 0
-    digit_least = digit_is.0
-
-    pub digit_nearer : length s - (at + (n + 1)) < length s - (at + n)
-    digit_nearer = omega (arith, digit_there)
 
     -- it is the digit d
     module _ {d : ℕ} (digit : d ≡ get_or s (at + n) 0 - 48) where
@@ -177,21 +158,12 @@ module _ {s : List ℕ} {at n v : ℕ} (p : DigitsPassed s at n v) where
           let here : n < length (drop at s) = simp length-drop (omega (arith, digit_there)) in
           rw (digit, ← get_or-drop at s n 0, p.means) (sym (decimal_next (drop at s) n here))
 
-      pub digit_small : d ≤ 9
-      digit_small = omega (arith, digit_is)
-
       -- it fits
-      pub digit_tens : v ≤ (18446744073709551615 - d) / 10 → Fits w64 (v * 10)
-      digit_tens h = record { fits = omega arith }
-
-      pub digit_added : v ≤ (18446744073709551615 - d) / 10 → Fits w64 (v * 10 + d)
-      digit_added h = record { fits = omega (arith, digit_is) }
-
-      pub digits_passed_digit : v ≤ (18446744073709551615 - d) / 10 → DigitsPassed s at (n + 1) (v * 10 + d)
-      digits_passed_digit h = record { inside = omega (arith, digit_there); fits = (digit_added h).fits; means = writes; rest = digit_more }
+      pub digits_passed_digit : v * 10 + d < 2 ^ 64 → DigitsPassed s at (n + 1) (v * 10 + d)
+      digits_passed_digit h = record { inside = omega (arith, digit_there); fits = h; means = writes; rest = digit_more }
 
       -- or it does not
-      pub digits_passed_over : (18446744073709551615 - d) / 10 < v → Refused OverWidth at ≡ decimal_at s at
+      pub digits_passed_over : 2 ^ 64 ≤ v * 10 + d → refused OverWidth at ≡ decimal_at s at
       digits_passed_over h =
           let more : decimal_value (take (n + 1) (drop at s)) ≤ decimal_value (take (digits_at s at) (drop at s)) = decimal_part (drop at s) (n + 1)
           (digits_at s at) (omega (arith, digit_more)) in
@@ -200,7 +172,7 @@ module _ {s : List ℕ} {at n v : ℕ} (p : DigitsPassed s at n v) where
 -- what `uint` answers, by the first byte
 
 module _ (s : List ℕ) (at : ℕ) where
-  pub uint_none : digits_at s at ≡ 0 → Refused NoDigit at ≡ uint_at s at
+  pub uint_none : digits_at s at ≡ 0 → refused NoDigit at ≡ uint_at s at
   unfolding uint_at
   uint_none e = rw e
 
@@ -209,11 +181,11 @@ module _ (s : List ℕ) (at : ℕ) where
     run : digits_at s at ≡ suc (digits_at s (at + 1))
     run = let d = digits_some s at some in digits_more s at (get_or s at 0) d.0 refl d.1
 
-    pub uint_leading : 0 < digits_at s (at + 1) → Refused LeadingZero at ≡ uint_at s at
+    pub uint_leading : 0 < digits_at s (at + 1) → refused LeadingZero at ≡ uint_at s at
     unfolding uint_at
     uint_leading h = rw (ne_eqb (digits_at s at) 0 (omega arith), le-leb 2 (digits_at s at) (omega (arith, run)), zeroth)
 
-    pub uint_zero : digits_at s (at + 1) ≡ 0 → Value 0 1 ≡ uint_at s at
+    pub uint_zero : digits_at s (at + 1) ≡ 0 → value 0 1 ≡ uint_at s at
     unfolding uint_at
     uint_zero e =
         let one : digits_at s at ≡ 1 = omega (arith, run) in

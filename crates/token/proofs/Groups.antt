@@ -12,33 +12,9 @@ use lib.ListN.{length, get_or, take, drop, length-take, length-drop}
 use lib.Seq.{take-suc, take-take, get_or-take, get_or-drop, length-take-le}
 use borrow.Author.Tests.{le-leb, lt-leb}
 use Rattle.token.specs.Format.{leading, goes_on, groups_value}
-use Rattle.token.specs.Answer.{go_on_at, binary_at}
+use Rattle.token.specs.Answer.{go_on_at, binary_at, refused, value}
 use Rattle.token.specs.declared.Reason.TheVariants.{Cut, TooLong}
-use Rattle.token.specs.declared.Token.TheVariants.{Value, Refused}
 use Rattle.token.proofs.Runs.{run_more, run_stop, run_end}
-
--- a turn over m bytes from a place on, n of them passed, room of them in all
-
-module _ (at : ℕ) {m n room : ℕ} (whole : at + room ≡ m) where
-  pub turn_past : room ≤ n → m ≤ at + n
-  turn_past h = omega arith
-
-  module _ (more : n < room) where
-    pub turn_there : at + n < m
-    turn_there = omega arith
-
-    pub turn_place : m * 1 < 2 ^ 63 → Fits w64 (at + n)
-    turn_place h = record { fits = omega arith }
-
-pub turn_within : {n room : ℕ} → n < room → n + 1 ≤ room
-turn_within h = omega arith
-
-pub turn_nearer : {n room : ℕ} → n < room → room - (n + 1) < room - n
-turn_nearer h = omega arith
-
--- the bytes before a place and those from it on are all
-pub room_whole : {m at : ℕ} → at < m → at + (m - at) ≡ m
-room_whole h = omega arith
 
 -- the number that groups write
 
@@ -93,10 +69,7 @@ module _ {s : List ℕ} {at n v w : ℕ} (p : GroupsPassed s at n v w) where
   pub group_small : (g : ℕ) → g < 128 → g * w ≤ 127 * 128 ^ 7
   group_small g h = let few : g ≤ 127 = omega arith in mul-le-mul few groups_passed_small.0
 
-  -- a turn counts on without wrapping, and the next weight fits
-  pub groups_passed_count : Fits w64 (n + 1)
-  groups_passed_count = record { fits = omega (arith, p.few) }
-
+  -- the next weight fits
   pub groups_passed_weight : Fits w64 (w * 128)
   groups_passed_weight = record { fits = omega (arith, groups_passed_small) }
 
@@ -108,7 +81,7 @@ module _ {s : List ℕ} {at n v w : ℕ} (p : GroupsPassed s at n v w) where
     pub group_added : Fits w64 (v + g * w)
     group_added = record { fits = omega (arith, groups_passed_small, group_small g h) }
 
-  pub groups_passed_cut : length s ≤ at + n → Refused Cut at ≡ binary_at s at
+  pub groups_passed_cut : length s ≤ at + n → refused Cut at ≡ binary_at s at
   unfolding binary_at
   groups_passed_cut h =
       let all : n ≡ go_on_at s at = run_end goes_on (eight_at s at) n _ p.rest (omega (arith, length_eight s at, p.few, p.inside)) in
@@ -127,7 +100,7 @@ module _ {s : List ℕ} {at n v w : ℕ} (p : GroupsPassed s at n v w) where
         let at_n : get_or (drop at s) n 0 ≡ b = get_or-drop at s n 0 ∙ sym byte in
         rw (p.means, p.weighs, ← at_n) (sym (groups_next (drop at s) n there'))
 
-    pub groups_passed_last : b < 128 → Value (v + b * w) (n + 1) ≡ binary_at s at
+    pub groups_passed_last : b < 128 → value (v + b * w) (n + 1) ≡ binary_at s at
     unfolding binary_at
     groups_passed_last h =
         let all : n ≡ go_on_at s at = run_stop goes_on (eight_at s at) n _ p.rest b here byte_here (lt-leb 128 b h) in
@@ -142,7 +115,7 @@ module _ {s : List ℕ} {at n v w : ℕ} (p : GroupsPassed s at n v w) where
       goes_on_here : go_on_at s at ≡ n + 1 + leading goes_on (drop (n + 1) (eight_at s at))
       goes_on_here = run_more goes_on (eight_at s at) n _ p.rest b here byte_here (le-leb 128 b on)
 
-      pub groups_passed_long : n ≡ 7 → Refused TooLong at ≡ binary_at s at
+      pub groups_passed_long : n ≡ 7 → refused TooLong at ≡ binary_at s at
       unfolding binary_at
       groups_passed_long e = rw (le-leb 8 (go_on_at s at) (omega (arith, goes_on_here)))
 

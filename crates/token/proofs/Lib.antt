@@ -1,3 +1,5 @@
+pub mod Parts
+pub mod Rest
 pub mod Runs
 pub mod Decimals
 pub mod Spelling

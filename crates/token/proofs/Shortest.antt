@@ -11,9 +11,7 @@ use lib.ListN.{length, take, drop, length-append, length-take, length-drop}
 use lib.Seq.{drop-append_seam, take-append-add, take_at, take-take, get_or-drop}
 use borrow.Author.Tests.{ltb-true, ltb-false, leb-true, leb-false, lt-leb, le-leb}
 use Rattle.token.specs.Format.{leading, goes_on, groups_value, groups_up_to, shortest, Grouped, final, group, Bytes}
-use Rattle.token.specs.Answer.{go_on_at, binary_of, binary_at, delta_at, pair_at}
-use Rattle.token.specs.declared.Token.TheVariants.{Value}
-use Rattle.token.specs.declared.PairToken.TheVariants.{Inputs}
+use Rattle.token.specs.Answer.{go_on_at, binary_of, binary_at, delta_at, pair_at, inputs, value}
 use Rattle.token.proofs.Groups.{eight_at, groups_lt}
 use Rattle.token.proofs.Deltas.{binary_read, binary_used, pair_of_lem}
 
@@ -29,13 +27,13 @@ grouped_run (group {b} on small g) after = rw (le-leb 128 b on) (omega (arith, g
 
 -- of bytes that begin with the grouped bs, eight at most, the reader takes bs
 grouped_taken : (bs after : List ℕ) → Grouped bs → length bs ≤ 8 → (n at : ℕ) → n + 1 ≡ length bs
-    → binary_of (bs ++ after) n at ≡ Value (groups_value bs) (length bs)
+    → binary_of (bs ++ after) n at ≡ value (groups_value bs) (length bs)
 grouped_taken bs after g few n at e =
     let whole : take (n + 1) (bs ++ after) ≡ bs = take_at bs after (n + 1) (sym e) in
     rw (lt-leb 8 n (omega arith), lt-leb (length (bs ++ after)) n (omega (arith, length-append bs after)), whole, e)
 
 pub grouped_reads : (bs : List ℕ) → Grouped bs → length bs ≤ 8 → (before after : List ℕ)
-    → binary_at (before ++ (bs ++ after)) (length before) ≡ Value (groups_value bs) (length bs)
+    → binary_at (before ++ (bs ++ after)) (length before) ≡ value (groups_value bs) (length bs)
 unfolding binary_at go_on_at
 grouped_reads bs g few before after =
     let rest : List ℕ = take (8 - length bs) after in
@@ -71,16 +69,16 @@ groups_value_lem (suc k) d h =
     cases k d (λ (bs : List ℕ). groups_value bs ≡ d) (λ small. omega arith) (λ big. omega (arith, groups_value_lem k (d / 128) (higher k d h)))
 
 pub shortest_reads_back : (d : ℕ) → d < 2 ^ 56 → (before after : List ℕ)
-    → binary_at (before ++ (shortest d ++ after)) (length before) ≡ Value d (length (shortest d))
+    → binary_at (before ++ (shortest d ++ after)) (length before) ≡ value d (length (shortest d))
 unfolding shortest
 shortest_reads_back d h before after =
     grouped_reads (groups_up_to 7 d) (groups_grouped 7 d h) (groups_few 7 d) before after
-    ∙ ap (λ (v : ℕ). Value v (length (groups_up_to 7 d))) (groups_value_lem 7 d h)
+    ∙ ap (λ (v : ℕ). value v (length (groups_up_to 7 d))) (groups_value_lem 7 d h)
 
 -- a delta and a pair so written read back
 
 pub delta_reads_back : (reference v : ℕ) → v ≤ reference → reference - v < 2 ^ 56 → (before after : List ℕ)
-    → delta_at (before ++ (shortest (reference - v) ++ after)) (length before) reference ≡ Value v (length (shortest (reference - v)))
+    → delta_at (before ++ (shortest (reference - v) ++ after)) (length before) reference ≡ value v (length (shortest (reference - v)))
 unfolding delta_at
 delta_reads_back reference v h small before after =
     let back : reference - (reference - v) ≡ v = omega arith in
@@ -88,12 +86,12 @@ delta_reads_back reference v h small before after =
 
 pub pair_reads_back : (code a b : ℕ) → b ≤ a → a < code → code < 2 ^ 56 → (before after : List ℕ)
     → pair_at (before ++ (shortest (code - a) ++ (shortest (a - b) ++ after))) (length before) code
-    ≡ Inputs a b (length (shortest (code - a)) + length (shortest (a - b)))
+    ≡ inputs a b (length (shortest (code - a)) + length (shortest (a - b)))
 pair_reads_back code a b h k small before after =
     let x : List ℕ = shortest (code - a) in
     let y : List ℕ = shortest (a - b) in
     let joined : before ++ (x ++ (y ++ after)) ≡ (before ++ x) ++ (y ++ after) = sym (append_assoc before x (y ++ after)) in
-    let next : delta_at (before ++ (x ++ (y ++ after))) (length before + length x) a ≡ Value b (length y)
+    let next : delta_at (before ++ (x ++ (y ++ after))) (length before + length x) a ≡ value b (length y)
     = rw (joined, ← length-append before x) (delta_reads_back a b h (omega arith) (before ++ x) after) in
     pair_of_lem (before ++ (x ++ (y ++ after))) (length before) code a b (length x + length y)
     (record {
@@ -157,7 +155,7 @@ run_grouped (b ∷ bs) small h = go (leb 128 b) refl (run_grouped bs (λ i. smal
         rw one (group (leb-true 128 b e) (small 0) (rest (omega arith)))
     go false e rest h' = final (leb-false 128 b e)
 
-module _ (s : List ℕ) (at d n : ℕ) (e : binary_at s at ≡ Value d n) where
+module _ (s : List ℕ) (at d n : ℕ) (e : binary_at s at ≡ value d n) where
   -- the bytes that the reader took are those at the place
   taken : take (go_on_at s at + 1) (eight_at s at) ≡ take n (drop at s)
   taken =

@@ -10,10 +10,10 @@ use lib.Dec.{ltb, leb, eqb, lit<}
 use lib.ListN.{length, get_or, take, drop, length-append, length-take, length-drop, get_or-append}
 use lib.Seq.{drop-append_seam, take-append_seam, get_or-append-add, get_or-take, get_or-drop}
 use borrow.Author.Tests.{ltb-true, ltb-false, leb-true, leb-false, lt-ltb, le-leb, ne_eqb, eqb-false}
+use Rattle.token.proofs.Parts.{value_parts}
 use Rattle.token.specs.Format.{leading, is_digit, decimal_from, decimal_value, digits_up_to, digits_of}
-use Rattle.token.specs.Answer.{digits_at, uint_at}
+use Rattle.token.specs.Answer.{digits_at, uint_at, refused, value}
 use Rattle.token.specs.declared.Reason.TheVariants.{NoDigit, LeadingZero, OverWidth}
-use Rattle.token.specs.declared.Token.TheVariants.{Value, Refused}
 use Rattle.token.proofs.Decimals.{digit_low, digit_yes, decimal_snoc, decimal_grows, digits_within}
 use Rattle.token.specs.Claims.{DecimalUsed}
 
@@ -195,7 +195,7 @@ no_leading (d ∷ e ∷ ds) p = rw (le-leb 2 (length (d ∷ e ∷ ds)) (omega ar
 
 -- digits without a leading zero are read as the number that they write, wherever they stand and whatever but a digit follows
 plain_reads : (ds : List ℕ) → Digits ds → Plain ds → decimal_value ds < 2 ^ 64 → (before after : List ℕ) → leading is_digit after ≡ 0
-    → uint_at (before ++ (ds ++ after)) (length before) ≡ Value (decimal_value ds) (length ds)
+    → uint_at (before ++ (ds ++ after)) (length before) ≡ value (decimal_value ds) (length ds)
 unfolding uint_at digits_at
 plain_reads ds a p fits before after stop =
     let n : ℕ = length ds in
@@ -214,12 +214,12 @@ plain_reads ds a p fits before after stop =
     )
 
 pub decimal_reads_back : (v : ℕ) → v < 2 ^ 64 → (before after : List ℕ) → leading is_digit after ≡ 0
-    → uint_at (before ++ (digits_of v ++ after)) (length before) ≡ Value v (length (digits_of v))
+    → uint_at (before ++ (digits_of v ++ after)) (length before) ≡ value v (length (digits_of v))
 unfolding digits_of
 decimal_reads_back v h before after stop =
-    let value : decimal_value (digits_up_to 19 v) ≡ v = digits_value 19 v (omega arith) in
-    plain_reads (digits_up_to 19 v) (digits_all 19 v (omega arith)) (digits_plain 19 v) (rw value h) before after stop
-    ∙ ap (λ (w : ℕ). Value w (length (digits_up_to 19 v))) value
+    let whole : decimal_value (digits_up_to 19 v) ≡ v = digits_value 19 v (omega arith) in
+    plain_reads (digits_up_to 19 v) (digits_all 19 v (omega arith)) (digits_plain 19 v) (rw whole h) before after stop
+    ∙ ap (λ (w : ℕ). value w (length (digits_up_to 19 v))) whole
 
 -- a decimal number that is read: its n bytes are all the digits at the place, without a leading zero, and they write it
 pub record DecimalRead (s : List ℕ) (at v n : ℕ) : Type 0 where
@@ -229,7 +229,7 @@ pub record DecimalRead (s : List ℕ) (at v n : ℕ) : Type 0 where
   pub means : decimal_value (take n (drop at s)) ≡ v
   pub fits : v < 2 ^ 64
 
-pub decimal-read : (s : List ℕ) (at v n : ℕ) → uint_at s at ≡ Value v n → DecimalRead s at v n
+pub decimal-read : (s : List ℕ) (at v n : ℕ) → uint_at s at ≡ value v n → DecimalRead s at v n
 unfolding uint_at
 decimal-read s at v n e = go (eqb k 0) (leb 2 k && eqb (get_or s at 0) 48) (ltb w (2 ^ 64)) refl refl refl e
   where
@@ -243,19 +243,20 @@ decimal-read s at v n e = go (eqb k 0) (leb 2 k && eqb (get_or s at 0) 48) (ltb 
     lead h z = rw (le-leb 2 k h, z)
 
     go : (x y z : Bool) → eqb k 0 ≡ x → (leb 2 k && eqb (get_or s at 0) 48) ≡ y → ltb w (2 ^ 64) ≡ z
-        → cond x (Refused NoDigit at) (cond y (Refused LeadingZero at) (cond z (Value w k) (Refused OverWidth at))) ≡ Value v n → DecimalRead s at v n
+        → cond x (refused NoDigit at) (cond y (refused LeadingZero at) (cond z (value w k) (refused OverWidth at))) ≡ value v n → DecimalRead s at v n
     go true y z f g h q = let o : ◌≡◌ {A = ℕ} 0 1 = cc in absurd (omega arith)
     go false true z f g h q = let o : ◌≡◌ {A = ℕ} 0 1 = cc in absurd (omega arith)
     go false false false f g h q = let o : ◌≡◌ {A = ℕ} 0 1 = cc in absurd (omega arith)
     go false false true f g h q =
-        let same : k ≡ n = cc in
-        let value : w ≡ v = cc in
+        let p = value_parts q in
+        let same : k ≡ n = p.1 in
+        let whole : w ≡ v = p.0 in
         let some : k ≡ 0 → ⊥ = eqb-false k 0 f in
         record {
           run = sym same;
           some = omega arith;
           plain = λ two z. let l = lead (omega arith) z in let o : ◌≡◌ {A = ℕ} 0 1 = cc in omega arith;
-          means = rw (← same) value;
+          means = rw (← same) whole;
           fits = omega (arith, ltb-true w (2 ^ 64) h);
         }
 
@@ -294,10 +295,10 @@ module _ (s : List ℕ) (at v n : ℕ) (d : DecimalRead s at v n) where
       ∙ ap (digits_up_to 19) d.means
 
 -- the bytes of a number that is read are its digits
-pub decimal_spelling : (s : List ℕ) (at v n : ℕ) → uint_at s at ≡ Value v n → take n (drop at s) ≡ digits_of v
+pub decimal_spelling : (s : List ℕ) (at v n : ℕ) → uint_at s at ≡ value v n → take n (drop at s) ≡ digits_of v
 decimal_spelling s at v n e = spelling s at v n (decimal-read s at v n e)
 
-pub decimal_used : (s : List ℕ) (at v n : ℕ) → uint_at s at ≡ Value v n → DecimalUsed s at n
+pub decimal_used : (s : List ℕ) (at v n : ℕ) → uint_at s at ≡ value v n → DecimalUsed s at n
 decimal_used s at v n e =
     let d = decimal-read s at v n e in
     record { some = d.some; twenty = decimal_short s at v n d; inside = decimal_inside s at v n d }

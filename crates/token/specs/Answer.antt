@@ -1,13 +1,32 @@
 -- What each number token answers at a place of a list of bytes, and the documents' number for each reason to refuse. A place past the end
 -- reads as the end: no byte stands from it on. A refusal consumes nothing and names the place given. Assumes nothing.
-use Rattle.std.specs.Prelude.{ℕ, ◌+◌, ◌-◌, ◌%◌, ◌^◌, Bool, cond, ◌&&◌, List, ltb, leb, eqb, length, get_or, take, drop}
+use Rattle.std.specs.Prelude.{ℕ, ◌+◌, ◌-◌, ◌%◌, ◌^◌, Bool, cond, ◌&&◌, List, ltb, leb, eqb, length, get_or, take, drop, Result, Ok, Err}
 use Rattle.token.specs.Format.{leading, is_digit, goes_on, decimal_value, groups_value}
 use Rattle.token.specs.declared.Reason.{Reason}
 use Rattle.token.specs.declared.Reason.TheVariants.{NoDigit, LeadingZero, OverWidth, OverLimit, AssignsZero, AssignsOdd, Cut, TooLong, OverReference, ZeroDelta}
-use Rattle.token.specs.declared.Token.{Token}
-use Rattle.token.specs.declared.Token.TheVariants.{Value, Refused}
-use Rattle.token.specs.declared.PairToken.{PairToken}
-use Rattle.token.specs.declared.PairToken.TheVariants.{Inputs, PairRefused}
+use Rattle.token.specs.declared.Number.{Number}
+use Rattle.token.specs.declared.Inputs.{Inputs}
+use Rattle.token.specs.declared.Refused.{Refused}
+
+-- what a token answers: a number and the bytes it took, or why there is none and where
+abbrev pub Token : Type 0
+Token = Result Number Refused
+
+-- the same of a gate's pair
+abbrev pub PairToken : Type 0
+PairToken = Result Inputs Refused
+
+-- a number that n bytes write
+abbrev pub value : ℕ → ℕ → Token
+value v n = Ok (record { value = v; used = n })
+
+-- a gate's two inputs, which n bytes write
+abbrev pub inputs : ℕ → ℕ → ℕ → PairToken
+inputs a b n = Ok (record { first = a; second = b; used = n })
+
+-- a refusal, whatever is read
+abbrev pub refused : {A : Type 0} → Reason → ℕ → Result A Refused
+refused why place = Err (record { why = why; place = place })
 
 -- numbers of refusals
 
@@ -26,13 +45,13 @@ reason_number ZeroDelta = 20
 
 -- the number of a token's refusal, 0 where it is read
 abbrev pub token_number : Token → ℕ
-token_number (Value v n) = 0
-token_number (Refused why place) = reason_number why
+token_number (Ok t) = 0
+token_number (Err e) = reason_number e.why
 
 -- the same of a pair
 abbrev pub pair_number : PairToken → ℕ
-pair_number (Inputs a b n) = 0
-pair_number (PairRefused why place) = reason_number why
+pair_number (Ok t) = 0
+pair_number (Err e) = reason_number e.why
 
 -- decimal numbers
 
@@ -42,13 +61,13 @@ digits_at s at = leading is_digit (drop at s)
 
 -- n digits that write v, which has to fit 64 bits
 abbrev pub fitting : ℕ → ℕ → ℕ → Token
-fitting v n at = cond (ltb v (2 ^ 64)) (Value v n) (Refused OverWidth at)
+fitting v n at = cond (ltb v (2 ^ 64)) (value v n) (refused OverWidth at)
 
 -- n digits, the first of them d, that write v: none is no number, and of two or more the first is not `0`
 abbrev pub uint_of : ℕ → ℕ → ℕ → ℕ → Token
 uint_of n d v at =
-    cond (eqb n 0) (Refused NoDigit at)
-    (cond (leb 2 n && eqb d 48) (Refused LeadingZero at) (fitting v n at))
+    cond (eqb n 0) (refused NoDigit at)
+    (cond (leb 2 n && eqb d 48) (refused LeadingZero at) (fitting v n at))
 
 -- a decimal number
 unfoldable pub uint_at : List ℕ → ℕ → Token
@@ -63,8 +82,8 @@ go_on_at s at = leading goes_on (take 8 (drop at s))
 -- of the bytes bs, eight at most, the first n go on: all eight are too many, and where no byte follows the n the number is cut
 abbrev pub binary_of : List ℕ → ℕ → ℕ → Token
 binary_of bs n at =
-    cond (leb 8 n) (Refused TooLong at)
-    (cond (leb (length bs) n) (Refused Cut at) (Value (groups_value (take (n + 1) bs)) (n + 1)))
+    cond (leb 8 n) (refused TooLong at)
+    (cond (leb (length bs) n) (refused Cut at) (value (groups_value (take (n + 1) bs)) (n + 1)))
 
 -- a number in groups of seven bits, redundant zero groups accepted
 unfoldable pub binary_at : List ℕ → ℕ → Token
@@ -72,8 +91,8 @@ binary_at s at = binary_of (take 8 (drop at s)) (go_on_at s at) at
 
 -- a delta that is read, taken from its reference
 abbrev pub less : ℕ → ℕ → Token → Token
-less reference at (Value d n) = cond (leb d reference) (Value (reference - d) n) (Refused OverReference at)
-less reference at (Refused why place) = Refused why place
+less reference at (Ok d) = cond (leb d.value reference) (value (reference - d.value) d.used) (refused OverReference at)
+less reference at (Err e) = Err e
 
 -- the reference less the delta at a place
 unfoldable pub delta_at : List ℕ → ℕ → ℕ → Token
@@ -83,13 +102,13 @@ delta_at s at reference = less reference at (binary_at s at)
 
 -- a number that is read, held to a limit, which it may reach
 abbrev pub within : ℕ → ℕ → Token → Token
-within limit at (Value v n) = cond (leb v limit) (Value v n) (Refused OverLimit at)
-within limit at (Refused why place) = Refused why place
+within limit at (Ok t) = cond (leb t.value limit) (Ok t) (refused OverLimit at)
+within limit at (Err e) = Err e
 
 -- a code that is read, as one that a definition may assign: not 0, and not odd
 abbrev pub assigned : ℕ → Token → Token
-assigned at (Value v n) = cond (eqb v 0) (Refused AssignsZero at) (cond (eqb (v % 2) 1) (Refused AssignsOdd at) (Value v n))
-assigned at (Refused why place) = Refused why place
+assigned at (Ok t) = cond (eqb t.value 0) (refused AssignsZero at) (cond (eqb (t.value % 2) 1) (refused AssignsOdd at) (Ok t))
+assigned at (Err e) = Err e
 
 -- a count of the header
 unfoldable pub header_field_at : List ℕ → ℕ → ℕ → Token
@@ -108,17 +127,17 @@ symbol_index_at s at limit = within limit at (uint_at s at)
 -- the last step of a pair, both deltas read: the first input and the n bytes of its delta, the second and the m of its own. A first input that is
 -- the output's code feeds the gate by itself: its delta is zero, by whatever bytes
 abbrev pub pair_of : ℕ → ℕ → ℕ → ℕ → ℕ → ℕ → PairToken
-pair_of code at first n second m = cond (eqb first code) (PairRefused ZeroDelta at) (Inputs first second (n + m))
+pair_of code at first n second m = cond (eqb first code) (refused ZeroDelta at) (inputs first second (n + m))
 
 -- the first input is read, by n bytes: then the second as it is read
 abbrev pub pair_second : ℕ → ℕ → ℕ → ℕ → Token → PairToken
-pair_second code at first n (Value second m) = pair_of code at first n second m
-pair_second code at first n (Refused why place) = PairRefused why place
+pair_second code at first n (Ok t) = pair_of code at first n t.value t.used
+pair_second code at first n (Err e) = Err e
 
 -- the first input as it is read: then the second, from the first, at the place after its bytes
 abbrev pub pair_first : List ℕ → ℕ → ℕ → Token → PairToken
-pair_first s code at (Value first n) = pair_second code at first n (delta_at s (at + n) first)
-pair_first s code at (Refused why place) = PairRefused why place
+pair_first s code at (Ok t) = pair_second code at t.value t.used (delta_at s (at + t.used) t.value)
+pair_first s code at (Err e) = Err e
 
 -- a gate's two inputs: the first below the output's code, the second from the first
 unfoldable pub pair_at : List ℕ → ℕ → ℕ → PairToken

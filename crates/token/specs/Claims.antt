@@ -1,10 +1,8 @@
 -- The words of the theorems about tokens. Assumes nothing.
-use Rattle.std.specs.Prelude.{ℕ, ◌+◌, ◌≤◌, ◌<◌, ◌≡◌, Bool, List, length}
+use Rattle.std.specs.Prelude.{ℕ, ◌+◌, ◌≤◌, ◌<◌, ◌≡◌, Bool, List, length, Ok, Err}
 use Rattle.token.specs.declared.Reason.{Reason}
-use Rattle.token.specs.declared.Token.{Token}
 use Rattle.token.specs.declared.Reason.TheVariants.{ZeroDelta}
-use Rattle.token.specs.declared.Token.TheVariants.{Value, Refused}
-use Rattle.token.specs.Answer.{uint_at, binary_at, delta_at, header_field_at, lit_at, symbol_index_at}
+use Rattle.token.specs.Answer.{Token, value, refused, uint_at, binary_at, delta_at, header_field_at, lit_at, symbol_index_at}
 
 -- a decimal number has one to twenty bytes, which stand within the bytes
 pub record DecimalUsed (s : List ℕ) (at n : ℕ) : Type 0 where
@@ -29,8 +27,8 @@ pub record PairUsed (s : List ℕ) (at used : ℕ) : Type 0 where
 pub record Paired (s : List ℕ) (at code a b used : ℕ) : Type 0 where
   pub n : ℕ
   pub m : ℕ
-  pub first : delta_at s at code ≡ Value a n
-  pub second : delta_at s (at + n) a ≡ Value b m
+  pub first : delta_at s at code ≡ value a n
+  pub second : delta_at s (at + n) a ≡ value b m
   pub below : a < code
   pub bytes : n + m ≡ used
 
@@ -39,8 +37,8 @@ pub record ZeroFirst (s : List ℕ) (at code : ℕ) : Type 0 where
   pub n : ℕ
   pub b : ℕ
   pub m : ℕ
-  pub first : binary_at s at ≡ Value 0 n
-  pub second : delta_at s (at + n) code ≡ Value b m
+  pub first : binary_at s at ≡ value 0 n
+  pub second : delta_at s (at + n) code ≡ value b m
 
 -- whoever reads a decimal number at the place answers t
 pub record Everyone (s : List ℕ) (at : ℕ) (t : Token) : Type 0 where
@@ -51,12 +49,12 @@ pub record Everyone (s : List ℕ) (at : ℕ) (t : Token) : Type 0 where
 
 -- a token names the place given, if it refuses
 abbrev pub NamesPlace : ℕ → Token → Type 0
-NamesPlace at (Value v n) = Unit {0}
-NamesPlace at (Refused why place) = place ≡ at
+NamesPlace at (Ok t) = Unit {0}
+NamesPlace at (Err e) = e.place ≡ at
 
 -- a pair names the first byte of the delta that is refused: the first's, or, where that is read, the second's after it, or, where both are read, the
 -- first's again, which is zero
 pub data RefusedDelta (s : List ℕ) (at code : ℕ) (why : Reason) (place : ℕ) : Type 0 where
-  first : delta_at s at code ≡ Refused why place → place ≡ at → RefusedDelta s at code why place
-  second : (a n : ℕ) → delta_at s at code ≡ Value a n → delta_at s (at + n) a ≡ Refused why place → place ≡ at + n → RefusedDelta s at code why place
+  first : delta_at s at code ≡ refused why place → place ≡ at → RefusedDelta s at code why place
+  second : (a n : ℕ) → delta_at s at code ≡ value a n → delta_at s (at + n) a ≡ refused why place → place ≡ at + n → RefusedDelta s at code why place
   first_zero : ZeroFirst s at code → why ≡ ZeroDelta → place ≡ at → RefusedDelta s at code why place

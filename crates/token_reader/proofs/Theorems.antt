@@ -10,17 +10,20 @@ use prog.Memory.{Memory}
 use prog.Routine.{Routine}
 use types.Logic.{Logic}
 use contract.Monad.{Fun}
+use denote.RattleType.{RattleType}
+use mir.Syntax.{Dict}
 use Rattle.promise.specs.Held.{DeterminesHeld, Answers}
 use Rattle.promise.proofs.Held.{answers_determine}
 use Rattle.place.specs.Place.{last, further}
 use Rattle.place.proofs.Theorems.{further_is, further_twice, further_reads}
-use Rattle.token.specs.Answer.{uint_at, binary_at, delta_at, header_field_at, lit_at, symbol_index_at, pair_at}
+use Rattle.token.specs.Answer.{value, inputs, refused, uint_at, binary_at, delta_at, header_field_at, lit_at, symbol_index_at, pair_at}
 use Rattle.token.specs.declared.Reason.{Reason}
-use Rattle.token.specs.declared.Token.TheVariants.{Value, Refused}
-use Rattle.token.specs.declared.PairToken.TheVariants.{Inputs, PairRefused}
+use Rattle.token.specs.contracts.Number as Number
+use Rattle.token.specs.contracts.Inputs as Inputs
 use Rattle.token.proofs.Theorems.{decimal_uses, binary_uses, delta_uses, pair_uses, pair_exactly}
-use Rattle.token_reader.specs.Reader.{starting, placed, moved_past, moved_past_pair}
+use Rattle.token_reader.specs.Reader.{starting, placed, moved_by, moved_past, moved_past_pair}
 use Rattle.token_reader.specs.declared.TokenReader.{TokenReader}
+use Rattle.token_reader.specs.declared.Taken.{Ghosts}
 use Rattle.token_reader.proofs.Moves.{moves, moves_pair, header_field_read, symbol_index_read, lit_read}
 use Rattle.token_reader.specs.contracts.new as new
 use Rattle.token_reader.specs.contracts.uint as uint
@@ -31,7 +34,8 @@ use Rattle.token_reader.specs.contracts.lit as lit
 use Rattle.token_reader.specs.contracts.symbol_index as symbol-index
 use Rattle.token_reader.specs.contracts.pair as pair
 use Rattle.token_reader.specs.contracts.moved as moved
-use Rattle.token_reader.specs.contracts.moved_pair as moved-pair
+use Rattle.token_reader.specs.contracts.NumberTaken.TheImpl as number
+use Rattle.token_reader.specs.contracts.InputsTaken.TheImpl as both
 
 -- 1. Each contract is an equation, so it determines its answer: of any two answers that it allows for the same reader and numbers, each is the other.
 
@@ -84,83 +88,103 @@ module _ {M : Type 1} {𝓤 : Ura M} (𝓛 : Logic 𝓤) (mem : Memory → SProp
   pub one_pair : DeterminesHeld 𝓤 pair.ended (pair.clauses 𝓛 mem run)
   one_pair = answers_determine 𝓤 pair.ended (pair.clauses 𝓛 mem run) _ pair_answers
 
-  pub moved_answers : Answers 𝓤 moved.ended (moved.clauses 𝓛 mem run) (λ κs a. moved_past a.0 a.1.0)
+  -- whatever is read, by the bytes that it took
+  module _ (T : RattleType) (of : Ghosts T.Denot) (methods : Dict) where
+    pub moved_any_answers : Answers 𝓤 (moved.ended T of methods) (moved.clauses T of methods 𝓛 mem run) (λ κs a. moved_by of.used_of a.0 a.1.0)
+    moved_any_answers κs a g r e = refl
+
+    pub one_moved_any : DeterminesHeld 𝓤 (moved.ended T of methods) (moved.clauses T of methods 𝓛 mem run)
+    one_moved_any =
+        answers_determine 𝓤 (moved.ended T of methods) (moved.clauses T of methods 𝓛 mem run) _ moved_any_answers
+
+  -- a number, and a pair
+  pub moved_answers : Answers 𝓤
+      (moved.ended Number.the_row number.ghosts number.dict)
+      (moved.clauses Number.the_row number.ghosts number.dict 𝓛 mem run)
+      (λ κs a. moved_past a.0 a.1.0)
   moved_answers κs a g r e = refl
 
-  pub one_moved : DeterminesHeld 𝓤 moved.ended (moved.clauses 𝓛 mem run)
-  one_moved = answers_determine 𝓤 moved.ended (moved.clauses 𝓛 mem run) _ moved_answers
+  pub one_moved : DeterminesHeld 𝓤
+      (moved.ended Number.the_row number.ghosts number.dict)
+      (moved.clauses Number.the_row number.ghosts number.dict 𝓛 mem run)
+  one_moved = one_moved_any Number.the_row number.ghosts number.dict
 
-  pub moved_pair_answers : Answers 𝓤 moved-pair.ended (moved-pair.clauses 𝓛 mem run) (λ κs a. moved_past_pair a.0 a.1.0)
+  pub moved_pair_answers : Answers 𝓤
+      (moved.ended Inputs.the_row both.ghosts both.dict)
+      (moved.clauses Inputs.the_row both.ghosts both.dict 𝓛 mem run)
+      (λ κs a. moved_past_pair a.0 a.1.0)
   moved_pair_answers κs a g r e = refl
 
-  pub one_moved_pair : DeterminesHeld 𝓤 moved-pair.ended (moved-pair.clauses 𝓛 mem run)
-  one_moved_pair = answers_determine 𝓤 moved-pair.ended (moved-pair.clauses 𝓛 mem run) _ moved_pair_answers
+  pub one_moved_pair : DeterminesHeld 𝓤
+      (moved.ended Inputs.the_row both.ghosts both.dict)
+      (moved.clauses Inputs.the_row both.ghosts both.dict 𝓛 mem run)
+  one_moved_pair = one_moved_any Inputs.the_row both.ghosts both.dict
 
 -- 2. A refusal leaves the reader as it was.
 
-pub refusal-leaves : (r : TokenReader) (why : Reason) (place : ℕ) → moved_past r (Refused why place) ≡ r
+pub refusal-leaves : (r : TokenReader) (why : Reason) (place : ℕ) → moved_past r (refused why place) ≡ r
 refusal-leaves r why place = refl
 
-pub refused_pair_leaves : (r : TokenReader) (why : Reason) (place : ℕ) → moved_past_pair r (PairRefused why place) ≡ r
+pub refused_pair_leaves : (r : TokenReader) (why : Reason) (place : ℕ) → moved_past_pair r (refused why place) ≡ r
 refused_pair_leaves r why place = refl
 
 -- 3. A reader that is moved past a token reads on where the token ended. Every slice is as short as is asked here.
 
 -- whatever token it is moved past: the bytes from its place on are those n bytes further
 pub reads_on : (r : TokenReader) (v n : ℕ) → length r.bytes.now ≤ last
-    → drop (moved_past r (Value v n)).at (moved_past r (Value v n)).bytes.now ≡ drop (r.at + n) r.bytes.now
+    → drop (moved_past r (value v n)).at (moved_past r (value v n)).bytes.now ≡ drop (r.at + n) r.bytes.now
 reads_on r v n short = further_reads r.bytes.now r.at n short
 
 pub reads_on_after_pair : (r : TokenReader) (a b n : ℕ) → length r.bytes.now ≤ last
-    → drop (moved_past_pair r (Inputs a b n)).at (moved_past_pair r (Inputs a b n)).bytes.now ≡ drop (r.at + n) r.bytes.now
+    → drop (moved_past_pair r (inputs a b n)).at (moved_past_pair r (inputs a b n)).bytes.now ≡ drop (r.at + n) r.bytes.now
 reads_on_after_pair r a b n short = further_reads r.bytes.now r.at n short
 
 -- past a token that was read where it stood, it stands at the first byte after it
 module _ (r : TokenReader) (short : length r.bytes.now ≤ last) where
-  pub after_uint : (v n : ℕ) → uint_at r.bytes.now r.at ≡ Value v n → moved_past r (uint_at r.bytes.now r.at) ≡ placed r (r.at + n)
+  pub after_uint : (v n : ℕ) → uint_at r.bytes.now r.at ≡ value v n → moved_past r (uint_at r.bytes.now r.at) ≡ placed r (r.at + n)
   after_uint v n e =
       let u = decimal_uses r.bytes.now r.at v n e in
       moves r _ v n e (omega arith)
 
-  pub after_binary_uint : (v n : ℕ) → binary_at r.bytes.now r.at ≡ Value v n → moved_past r (binary_at r.bytes.now r.at) ≡ placed r (r.at + n)
+  pub after_binary_uint : (v n : ℕ) → binary_at r.bytes.now r.at ≡ value v n → moved_past r (binary_at r.bytes.now r.at) ≡ placed r (r.at + n)
   after_binary_uint v n e =
       let u = binary_uses r.bytes.now r.at v n e in
       moves r _ v n e (omega arith)
 
-  pub after_delta_code : (reference v n : ℕ) → delta_at r.bytes.now r.at reference ≡ Value v n
+  pub after_delta_code : (reference v n : ℕ) → delta_at r.bytes.now r.at reference ≡ value v n
       → moved_past r (delta_at r.bytes.now r.at reference) ≡ placed r (r.at + n)
   after_delta_code reference v n e =
       let u = delta_uses r.bytes.now r.at reference v n e in
       moves r _ v n e (omega arith)
 
-  pub after_header_field : (limit v n : ℕ) → header_field_at r.bytes.now r.at limit ≡ Value v n
+  pub after_header_field : (limit v n : ℕ) → header_field_at r.bytes.now r.at limit ≡ value v n
       → moved_past r (header_field_at r.bytes.now r.at limit) ≡ placed r (r.at + n)
   after_header_field limit v n e =
       let u = decimal_uses r.bytes.now r.at v n (header_field_read r.bytes.now r.at limit v n e) in
       moves r _ v n e (omega arith)
 
-  pub after_lit : (limit : ℕ) (assigning : Bool) (v n : ℕ) → lit_at r.bytes.now r.at limit assigning ≡ Value v n
+  pub after_lit : (limit : ℕ) (assigning : Bool) (v n : ℕ) → lit_at r.bytes.now r.at limit assigning ≡ value v n
       → moved_past r (lit_at r.bytes.now r.at limit assigning) ≡ placed r (r.at + n)
   after_lit limit assigning v n e =
       let u = decimal_uses r.bytes.now r.at v n (lit_read r.bytes.now r.at limit assigning v n e) in
       moves r _ v n e (omega arith)
 
-  pub after_symbol_index : (limit v n : ℕ) → symbol_index_at r.bytes.now r.at limit ≡ Value v n
+  pub after_symbol_index : (limit v n : ℕ) → symbol_index_at r.bytes.now r.at limit ≡ value v n
       → moved_past r (symbol_index_at r.bytes.now r.at limit) ≡ placed r (r.at + n)
   after_symbol_index limit v n e =
       let u = decimal_uses r.bytes.now r.at v n (symbol_index_read r.bytes.now r.at limit v n e) in
       moves r _ v n e (omega arith)
 
-  pub after-pair : (code a b n : ℕ) → pair_at r.bytes.now r.at code ≡ Inputs a b n
+  pub after-pair : (code a b n : ℕ) → pair_at r.bytes.now r.at code ≡ inputs a b n
       → moved_past_pair r (pair_at r.bytes.now r.at code) ≡ placed r (r.at + n)
   after-pair code a b n e =
       let u = pair_uses r.bytes.now r.at code a b n e in
       moves_pair r _ a b n e (omega arith)
 
   -- a pair is two deltas with a move between them, the first of them not zero, and ends where the second ends
-  pub pair_is_two_deltas : (code a b n m : ℕ) → a < code → delta_at r.bytes.now r.at code ≡ Value a n
-      → delta_at (moved_past r (Value a n)).bytes.now (moved_past r (Value a n)).at a ≡ Value b m
-      → (pair_at r.bytes.now r.at code ≡ Inputs a b (n + m)) × (moved_past_pair r (Inputs a b (n + m)) ≡ moved_past (moved_past r (Value a n)) (Value b m))
+  pub pair_is_two_deltas : (code a b n m : ℕ) → a < code → delta_at r.bytes.now r.at code ≡ value a n
+      → delta_at (moved_past r (value a n)).bytes.now (moved_past r (value a n)).at a ≡ value b m
+      → (pair_at r.bytes.now r.at code ≡ inputs a b (n + m)) × (moved_past_pair r (inputs a b (n + m)) ≡ moved_past (moved_past r (value a n)) (value b m))
   pair_is_two_deltas code a b n m below first second =
       let u = delta_uses r.bytes.now r.at code a n first in
       let on : further r.at n ≡ r.at + n = further_is r.at n (omega arith) in (

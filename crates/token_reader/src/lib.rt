@@ -2,11 +2,35 @@
 // at the place after one. The reader is passed by value: reading does not move it, `moved` does.
 #![tactic(auto)]
 
-ghost use Rattle.std.specs.Prelude.{◌≡◌};
+ghost use Rattle.std.specs.Prelude.{ℕ, ◌≡◌};
 ghost use Rattle.token.specs.Answer.{uint_at, binary_at, delta_at, header_field_at, lit_at, symbol_index_at, pair_at};
-ghost use Rattle.token_reader.specs.Reader.{starting, place_after, place_after_pair, moved_past, moved_past_pair};
+ghost use Rattle.token_reader.specs.Reader.{starting, past, moved_by};
 
-use token::{PairToken, Token};
+use token::{Inputs, Number, Refused};
+
+// What is read, be it a number or a gate's pair, took some bytes.
+pub trait Taken {
+    ghost used_of: { Self → ℕ };
+
+    fn used(self) -> usize
+        ensures { result ≡ used_of self };
+}
+
+impl Taken for Number {
+    ghost used_of = { λ number. number.used };
+
+    fn used(self) -> usize {
+        self.used
+    }
+}
+
+impl Taken for Inputs {
+    ghost used_of = { λ inputs. inputs.used };
+
+    fn used(self) -> usize {
+        self.used
+    }
+}
 
 #[derive(Clone, Copy)]
 pub struct TokenReader<'a> {
@@ -22,94 +46,70 @@ pub fn new<'a>(bytes: &'a [u8]) -> TokenReader<'a>
 }
 
 // A decimal number.
-pub fn uint<'a>(r: TokenReader<'a>) -> Token
+pub fn uint<'a>(r: TokenReader<'a>) -> Result<Number, Refused>
     ensures { result ≡ uint_at r.entry.bytes.now r.entry.at }
 {
     token::uint(r.bytes, r.at)
 }
 
 // A number in groups of seven bits.
-pub fn binary_uint<'a>(r: TokenReader<'a>) -> Token
+pub fn binary_uint<'a>(r: TokenReader<'a>) -> Result<Number, Refused>
     ensures { result ≡ binary_at r.entry.bytes.now r.entry.at }
 {
     token::binary_uint(r.bytes, r.at)
 }
 
 // A reference less the delta.
-pub fn delta_code<'a>(r: TokenReader<'a>, reference: u64) -> Token
+pub fn delta_code<'a>(r: TokenReader<'a>, reference: u64) -> Result<Number, Refused>
     ensures { result ≡ delta_at r.entry.bytes.now r.entry.at reference }
 {
     token::delta_code(r.bytes, r.at, reference)
 }
 
 // A count of the header, up to a limit.
-pub fn header_field<'a>(r: TokenReader<'a>, limit: u64) -> Token
+pub fn header_field<'a>(r: TokenReader<'a>, limit: u64) -> Result<Number, Refused>
     ensures { result ≡ header_field_at r.entry.bytes.now r.entry.at limit }
 {
     token::header_field(r.bytes, r.at, limit)
 }
 
 // A literal's code, up to a limit, and one that a definition may assign where it is assigned.
-pub fn lit<'a>(r: TokenReader<'a>, limit: u64, assigning: bool) -> Token
+pub fn lit<'a>(r: TokenReader<'a>, limit: u64, assigning: bool) -> Result<Number, Refused>
     ensures { result ≡ lit_at r.entry.bytes.now r.entry.at limit assigning }
 {
     token::lit(r.bytes, r.at, limit, assigning)
 }
 
 // A symbol's index, up to a limit.
-pub fn symbol_index<'a>(r: TokenReader<'a>, limit: u64) -> Token
+pub fn symbol_index<'a>(r: TokenReader<'a>, limit: u64) -> Result<Number, Refused>
     ensures { result ≡ symbol_index_at r.entry.bytes.now r.entry.at limit }
 {
     token::symbol_index(r.bytes, r.at, limit)
 }
 
 // A gate's two inputs, from the output's code.
-pub fn pair<'a>(r: TokenReader<'a>, code: u64) -> PairToken
+pub fn pair<'a>(r: TokenReader<'a>, code: u64) -> Result<Inputs, Refused>
     ensures { result ≡ pair_at r.entry.bytes.now r.entry.at code }
 {
     token::pair(r.bytes, r.at, code)
 }
 
 // The place past what was read; a refusal leaves the place.
-fn place_after(at: usize, t: Token) -> usize
-    ensures { result ≡ place_after at t }
+fn place_after<T: Taken>(at: usize, t: Result<T, Refused>) -> usize
+    ensures { result ≡ past T.used_of at t }
 {
     match t {
-        Token::Value { value, used } => place::further(at, used),
-        Token::Refused { why, place } => at,
-    }
-}
-
-// The same of a pair.
-fn place_after_pair(at: usize, t: PairToken) -> usize
-    ensures { result ≡ place_after_pair at t }
-{
-    match t {
-        PairToken::Inputs {
-            first,
-            second,
-            used,
-        } => place::further(at, used),
-        PairToken::PairRefused { why, place } => at,
+        Ok(read) => place::further(at, read.used()),
+        Err(_) => at,
     }
 }
 
 // The reader past what was read; a refusal leaves the place.
-pub fn moved<'a>(r: TokenReader<'a>, t: Token) -> TokenReader<'a>
-    ensures { result ≡ moved_past r.entry t }
+pub fn moved<'a, T: Taken>(r: TokenReader<'a>, t: Result<T, Refused>) -> TokenReader<'a>
+    ensures { result ≡ moved_by T.used_of r.entry t }
 {
     TokenReader {
         bytes: r.bytes,
         at: place_after(r.at, t),
-    }
-}
-
-// The same after a pair.
-pub fn moved_pair<'a>(r: TokenReader<'a>, t: PairToken) -> TokenReader<'a>
-    ensures { result ≡ moved_past_pair r.entry t }
-{
-    TokenReader {
-        bytes: r.bytes,
-        at: place_after_pair(r.at, t),
     }
 }

@@ -1,18 +1,41 @@
--- The checks say how many records are laid, and they have room; what is then left to do comes to the outcome with records.
-use Rattle.std.proofs.Common.{◌*◌, ◌≤◌, length, arith}
-use Rattle.aig_records.proofs.Judging.{few_laid, laid_in_room}
-use Rattle.aig_records.proofs.Joined.{joined}
+-- `renumber_records` meets its contract: the checks refuse at once, or the records are laid flat, and what is then left to do comes to the outcome with
+-- records. Assumes nothing.
+use Rattle.std.proofs.Common.{◌≡◌, ◌*◌, length, Err, sym, arith, rules}
+use lib.Seq.{length-take-le}
+use Rattle.aig_records.proofs.Joined.{refused_at_once, room_for, joined}
 use Rattle.aig_records.proofs.renumber_records.Goals as goal
 
-pub flatten-requires : goal.flatten-requires
-flatten-requires c = rw c.judge-checked.ensures (few_laid _ _ _ _ _ _ _ _ _, laid_in_room _ _ _ _ _ _ _ _ _)
+pub returns-in_err-judge : goal.returns-in_err-judge
+returns-in_err-judge c =
+    let a = c.args in
+    let refused : c.from_residual.result ≡ Err c.in_err-judge.field-0.0 = search rules in
+    rw refused (refused_at_once a.circuit a.lists.now.inputs.now a.lists.now.states.now a.lists.now.nexts.now a.lists.now.resets.now a.lists.now.gates.now a.lists.now.roots.now a.room.map.now a.room.next_images.now
+    a.room.reset_images.now a.room.root_images.now a.room.gates_out.now a.room.scratch.now a.flat.now c.judge.result c.judge.ensures _ c.in_err-judge.was)
 
-pub finish-requires : goal.finish-requires
-finish-requires c =
-    let room : c.judge-checked.result.laid * 3 ≤ length c.args.flat.now = rw c.judge-checked.ensures (laid_in_room _ _ _ _ _ _ _ _ _) in omega arith
+pub flatten-requires : goal.flatten-requires
+flatten-requires c = room_for _ _ _ _ _ _ _ _ _ c.judge.result c.judge.ensures c.in_ok-judge.was
+
+pub slice_bounds-laid-end : goal.slice_bounds-laid-end
+slice_bounds-laid-end c =
+    omega (arith, room_for _ _ _ _ _ _ _ _ _ c.judge.result c.judge.ensures c.in_ok-judge.was, c.flatten.auto.flat)
+
+pub slice_bounds-laid-end-2 : goal.slice_bounds-laid-end-2
+slice_bounds-laid-end-2 c =
+    sym (length-take-le (length c.args.lists.now.gates.now * 3) c.flatten.new.flat
+    (omega (arith, room_for _ _ _ _ _ _ _ _ _ c.judge.result c.judge.ensures c.in_ok-judge.was, c.flatten.auto.flat)))
+
+pub slice_bounds-fill-end : goal.slice_bounds-fill-end
+slice_bounds-fill-end c =
+    omega (arith, room_for _ _ _ _ _ _ _ _ _ c.judge.result c.judge.ensures c.in_ok-judge.was, c.flatten.auto.flat)
+
+pub slice_bounds-fill-end-2 : goal.slice_bounds-fill-end-2
+slice_bounds-fill-end-2 c =
+    sym (length-take-le (length c.args.lists.now.gates.now * 3) c.flatten.new.flat
+    (omega (arith, room_for _ _ _ _ _ _ _ _ _ c.judge.result c.judge.ensures c.in_ok-judge.was, c.flatten.auto.flat)))
 
 pub returns : goal.returns
 returns c =
-    rw (c.finish.ensures, c.flatten.ensures, c.judge-checked.ensures, c.first_over-found.ensures)
-    (joined c.args.circuit c.args.inputs.now c.args.states.now c.args.nexts.now c.args.resets.now c.args.gates.now c.args.roots.now c.args.map.now
-    c.args.next_images.now c.args.reset_images.now c.args.root_images.now c.args.gates_out.now c.args.scratch.now c.args.flat.now)
+    let a = c.args in
+    joined a.circuit a.lists.now.inputs.now a.lists.now.states.now a.lists.now.nexts.now a.lists.now.resets.now a.lists.now.gates.now a.lists.now.roots.now a.room.map.now a.room.next_images.now
+    a.room.reset_images.now a.room.root_images.now a.room.gates_out.now a.room.scratch.now a.flat.now c.judge.result c.judge.ensures c.in_ok-judge.was
+    _ c.flatten.ensures _ c.renumber-answer.ensures _ (c.fill.ensures.after (λ y e. search rules))

@@ -1,5 +1,4 @@
 -- `ascii_lines::inputs_into` meets its contract: a turn of the loop stores one line more (`Going`). Assumes nothing.
-use Prim.Native.Nat.{◌-◌}
 use Rattle.ascii_lines.specs.Lines.{input_at}
 use Rattle.ascii_lines.specs.Promise.{put_numbers}
 use Rattle.ascii_lines.proofs.Loops.{Going}
@@ -7,6 +6,3 @@ use Rattle.ascii_lines.proofs.inputs_into.Given as goal
 
 abbrev pub invariant-loop-i : goal.invariant-loop-i
 invariant-loop-i l = Going put_numbers (λ k. input_at l.s l.limit) l.n l.at l.initial.list l.list l.i l.here
-
-abbrev pub decreases-loop-i : goal.decreases-loop-i
-decreases-loop-i l = l.n - l.i

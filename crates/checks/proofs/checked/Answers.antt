@@ -1,36 +1,30 @@
 -- `checked` meets its contract: checks 1 to 3 on lengths, then check 4 where they pass, then check 22. Assumes nothing.
-use Rattle.circuit.specs.Outcome.{lent_of}
+use Rattle.std.proofs.lemmas.Result.{err_from_is_err_and}
+use Rattle.circuit.specs.Passed.{lent_in}
 use Rattle.checks.proofs.Sizes.{fails_sized, shaped, fails_over, passes}
 use Rattle.checks.proofs.checked.Goals as goal
 
-pub over-first-requires : goal.over-first-requires
-over-first-requires c =
+pub returns-in_err-sized : goal.returns-in_err-sized
+returns-in_err-sized c =
     let a = c.args in
-    let lent =
-    lent_of a.circuit a.inputs.now a.states.now a.nexts.now a.resets.now a.gates.now a.roots.now a.map.now
-    a.next_images.now a.reset_images.now a.root_images.now a.gates_out.now a.scratch.now in
-    shaped lent _ c.sized-sizes.ensures c.in-Passed.is
+    let lent = lent_in a.circuit a.lists.now a.room.now in
+    let p = err_from_is_err_and c.from_residual.result c.from_residual.ensures.1 in
+    rw (p.1, p.2) (fails_sized lent _ c.sized.ensures _ c.in_err-sized.was)
 
-pub returns-in-Failed : goal.returns-in-Failed
-returns-in-Failed c =
+pub over-requires : goal.over-requires
+over-requires c =
     let a = c.args in
-    let lent =
-    lent_of a.circuit a.inputs.now a.states.now a.nexts.now a.resets.now a.gates.now a.roots.now a.map.now
-    a.next_images.now a.reset_images.now a.root_images.now a.gates_out.now a.scratch.now in
-    fails_sized lent _ c.sized-sizes.ensures _ c.in-Failed.is
+    let lent = lent_in a.circuit a.lists.now a.room.now in
+    shaped lent _ c.sized.ensures c.in_ok-sized.was
 
-pub returns-in-Literal : goal.returns-in-Literal
-returns-in-Literal c =
+pub returns-in-Some : goal.returns-in-Some
+returns-in-Some c =
     let a = c.args in
-    let lent =
-    lent_of a.circuit a.inputs.now a.states.now a.nexts.now a.resets.now a.gates.now a.roots.now a.map.now
-    a.next_images.now a.reset_images.now a.root_images.now a.gates_out.now a.scratch.now in
-    fails_over lent _ c.sized-sizes.ensures c.in-Passed.is _ c.over-first.ensures _ c.in-Literal.is
+    let lent = lent_in a.circuit a.lists.now a.room.now in
+    fails_over lent _ c.sized.ensures c.in_ok-sized.was _ c.over.ensures _ c.in-Some.is
 
-pub returns-in-Nothing : goal.returns-in-Nothing
-returns-in-Nothing c =
+pub returns : goal.returns
+returns c =
     let a = c.args in
-    let lent =
-    lent_of a.circuit a.inputs.now a.states.now a.nexts.now a.resets.now a.gates.now a.roots.now a.map.now
-    a.next_images.now a.reset_images.now a.root_images.now a.gates_out.now a.scratch.now in
-    passes lent _ c.sized-sizes.ensures c.in-Passed.is _ c.over-first.ensures c.in-Nothing.is _ c.resets_checked.ensures
+    let lent = lent_in a.circuit a.lists.now a.room.now in
+    passes lent _ c.sized.ensures c.in_ok-sized.was _ c.over.ensures c.in_default.is _ c.resets_checked.ensures

@@ -1,44 +1,20 @@
 -- `over` meets its contract: the first of lists one after another is the first of the first list that has one. Assumes nothing.
 use Prim.Native.Nat.{ℕ, ◌+◌, ◌*◌}
-use mathlib.Core.Path.{ap, ◌∙◌}
+use Rattle.std.proofs.Common.{rules}
+use mathlib.Core.Path.{sym, ap, ◌∙◌}
+use Rattle.circuit.specs.Circuit.{latch_codes, first_over}
 use Rattle.checks.specs.Bare.{bare}
-use Rattle.checks.proofs.Sizes.{fits_twice, fits_bound}
-use Rattle.checks.proofs.Offenders.{in_inputs, in_gates, in_latches_lem, in_roots_lem}
-use native.Mathlib.Omega.{arith}
+use Rattle.checks.specs.Checks.{found}
+use Rattle.checks.proofs.Offenders.{or_else_is, over_all}
 use Rattle.checks.proofs.over.Goals as goal
-
-pub overflow_mul-bound : goal.overflow_mul-bound
-overflow_mul-bound c = fits_twice c.wide.ensures (omega arith)
-
-pub overflow_add-bound : goal.overflow_add-bound
-overflow_add-bound c = fits_bound c.wide.ensures (omega arith)
-
-pub returns-in-Literal : goal.returns-in-Literal
-returns-in-Literal c =
-    let a = c.args in
-    c.in-Literal.is ∙ in_inputs (bare a.circuit a.inputs.now a.states.now a.nexts.now a.resets.now a.gates.now a.roots.now) _
-    (ap (λ (k : ℕ). 2 * k + 1) (c.wide.ensures ∙ c.index.ensures)) c.requires _ c.over_in-first.ensures _
-    c.in-Literal.is
-
-pub returns-in-Literal-first : goal.returns-in-Literal-first
-returns-in-Literal-first c =
-    let a = c.args in
-    c.in-Literal-first.is ∙ in_gates (bare a.circuit a.inputs.now a.states.now a.nexts.now a.resets.now a.gates.now a.roots.now) _
-    (ap (λ (k : ℕ). 2 * k + 1) (c.wide.ensures ∙ c.index.ensures)) c.requires _ c.over_in-first.ensures
-    c.in_default.is _ c.over_in-first-2.ensures _ c.in-Literal-first.is
-
-pub returns-in-Literal-first-2 : goal.returns-in-Literal-first-2
-returns-in-Literal-first-2 c =
-    let a = c.args in
-    c.in-Literal-first-2.is ∙ in_latches_lem (bare a.circuit a.inputs.now a.states.now a.nexts.now a.resets.now a.gates.now a.roots.now) _
-    (ap (λ (k : ℕ). 2 * k + 1) (c.wide.ensures ∙ c.index.ensures)) c.requires _ c.over_in-first.ensures
-    c.in_default.is _ c.over_in-first-2.ensures c.in_default-first.is _
-    c.over_in_latches-first.ensures _ c.in-Literal-first-2.is
 
 pub returns : goal.returns
 returns c =
     let a = c.args in
-    in_roots_lem (bare a.circuit a.inputs.now a.states.now a.nexts.now a.resets.now a.gates.now a.roots.now) _
-    (ap (λ (k : ℕ). 2 * k + 1) (c.wide.ensures ∙ c.index.ensures)) c.requires _ c.over_in-first.ensures
-    c.in_default.is _ c.over_in-first-2.ensures c.in_default-first.is _
-    c.over_in_latches-first.ensures c.in_default-first-2.is _ c.over_in.ensures
+    let all = over_all (bare a.circuit a.lists.now.inputs.now a.lists.now.states.now a.lists.now.nexts.now a.lists.now.resets.now a.lists.now.gates.now a.lists.now.roots.now) _
+    (ap (λ (k : ℕ). 2 * k + 1) (c.wide.ensures ∙ c.index.ensures)) c.requires in
+    let bound = 2 * c.wide.result + 1 in
+    let g = or_else_is c.over_in.result c.or_else.result (found (first_over bound a.lists.now.gates.now)) c.or_else.ensures (λ k. search rules) in
+    let s = or_else_is c.or_else.result c.or_else-2.result (found (first_over bound (latch_codes a.lists.now.states.now a.lists.now.nexts.now a.lists.now.resets.now))) c.or_else-2.ensures (λ k. search rules) in
+    let r = or_else_is c.or_else-2.result c.or_else-3.result (found (first_over bound a.lists.now.roots.now)) c.or_else-3.ensures (λ k. search rules) in
+    rw (r, s, g, c.over_in.ensures) (sym all)

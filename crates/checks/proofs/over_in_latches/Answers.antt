@@ -1,86 +1,31 @@
--- `over_in_latches` meets its contract: nothing before latch i is over the bound, so the first of what is left is the first of all. Assumes nothing.
-use native.Mathlib.Omega.{arith}
-use borrow.Author.Rules.{scaled_Fits}
-use Prim.Native.Nat.{zero-le}
-use mathlib.Core.Path.{refl, sym, ap, ◌∙◌}
-use Rattle.checks.proofs.Offenders.{turn-fits, turn_within, turn_nearer, latch_state, latch_next, latch_reset, latch_on, latch_short, latch_bare, latch_end}
+-- `over_in_latches` meets its contract: a latch with no code over the bound is passed, and where one of the lists ends none is left. Assumes nothing.
+use mathlib.Core.Path.{sym, ap, ◌∙◌}
+use mathlib.Core.List.{[], ◌∷◌}
+use Rattle.std.proofs.lemmas.List.{length_push}
+use Rattle.std.proofs.lemmas.Iterator.{YieldsList-from_slice, YieldsList-from_zip}
+use Rattle.std.proofs.lemmas.Iterator.Consumers.{YieldsList-at, YieldsList-turn, YieldsList-end}
+use Rattle.circuit.specs.Circuit.{first_over}
 use Rattle.checks.specs.Checks.{found}
+use Rattle.checks.proofs.Offenders.{latch_turn, over_past, latch_end}
 use Rattle.checks.proofs.over_in_latches.Goals as goal
 
-pub loop-i-init : goal.loop-i-init
-loop-i-init c = (zero-le, refl)
-
-pub returns-then-nexts-i : goal.returns-then-nexts-i
-returns-then-nexts-i c =
+pub loop-state-preserved : goal.loop-state-preserved
+loop-state-preserved c =
     let a = c.args in
-    latch_short a.bound a.states.now a.nexts.now a.resets.now _ c.loop-i-test.true c.if-nexts-i.true ∙ ap found (sym c.loop-i.invariant.1)
-
-pub returns-then-resets-i : goal.returns-then-resets-i
-returns-then-resets-i c =
-    let a = c.args in
-    latch_bare a.bound a.states.now a.nexts.now a.resets.now _ c.loop-i-test.true c.if-nexts-i.false c.if-resets-i.true
-    ∙ ap found (sym c.loop-i.invariant.1)
-
-pub offset_bounds-states-i : goal.offset_bounds-states-i
-offset_bounds-states-i c =
-    scaled_Fits _ _ 4 c.loop-i-test.true (omega arith)
-
-pub bounds-states-i : goal.bounds-states-i
-bounds-states-i c =
-    c.loop-i-test.true
-
-pub returns-then-bound-wide : goal.returns-then-bound-wide
-returns-then-bound-wide c =
-    let a = c.args in
-    latch_state a.bound a.states.now a.nexts.now a.resets.now _ c.loop-i-test.true c.if-nexts-i.false c.if-resets-i.false _
-    c.wide.ensures _ c.if-bound-wide.true c.from_code.ensures ∙ ap found (sym c.loop-i.invariant.1)
-
-pub offset_bounds-nexts-i : goal.offset_bounds-nexts-i
-offset_bounds-nexts-i c =
-    scaled_Fits _ _ 4 c.if-nexts-i.false (omega arith)
-
-pub bounds-nexts-i : goal.bounds-nexts-i
-bounds-nexts-i c =
-    c.if-nexts-i.false
-
-pub returns-then-bound-wide-2 : goal.returns-then-bound-wide-2
-returns-then-bound-wide-2 c =
-    let a = c.args in
-    latch_next a.bound a.states.now a.nexts.now a.resets.now _ c.loop-i-test.true c.if-nexts-i.false c.if-resets-i.false _
-    c.wide.ensures c.if-bound-wide.false _ c.wide-in-loop-i.ensures _ c.if-bound-wide-2.true c.from_code-then-bound-wide-2.ensures ∙ ap found (sym c.loop-i.invariant.1)
-
-pub offset_bounds-resets-i : goal.offset_bounds-resets-i
-offset_bounds-resets-i c =
-    scaled_Fits _ _ 4 c.if-resets-i.false (omega arith)
-
-pub bounds-resets-i : goal.bounds-resets-i
-bounds-resets-i c =
-    c.if-resets-i.false
-
-pub returns-then-bound-wide-3 : goal.returns-then-bound-wide-3
-returns-then-bound-wide-3 c =
-    let a = c.args in
-    latch_reset a.bound a.states.now a.nexts.now a.resets.now _ c.loop-i-test.true c.if-nexts-i.false c.if-resets-i.false _
-    c.wide.ensures c.if-bound-wide.false _ c.wide-in-loop-i.ensures c.if-bound-wide-2.false _ c.wide-in-loop-i-2.ensures _ c.if-bound-wide-3.true c.from_code-then-bound-wide-3.ensures
-    ∙ ap found (sym c.loop-i.invariant.1)
-
-pub overflow_add-i : goal.overflow_add-i
-overflow_add-i c =
-    turn-fits c.loop-i-test.true (omega arith)
-
-pub loop-i-smaller : goal.loop-i-smaller
-loop-i-smaller c =
-    turn_nearer c.loop-i-test.true
-
-pub loop-i-preserved : goal.loop-i-preserved
-loop-i-preserved c =
-    let a = c.args in (
-      turn_within c.loop-i-test.true,
-      c.loop-i.invariant.1 ∙ latch_on a.bound a.states.now a.nexts.now a.resets.now _ c.loop-i-test.true c.if-nexts-i.false c.if-resets-i.false _
-          c.wide.ensures c.if-bound-wide.false _ c.wide-in-loop-i.ensures c.if-bound-wide-2.false _ c.wide-in-loop-i-2.ensures c.if-bound-wide-3.false,
-    )
+    let road =
+    YieldsList-at c.into_iter-state-iterator.ensures.into_iter_gives (YieldsList-from_zip (YieldsList-at c.zip-state-items.ensures.first
+    (YieldsList-from_zip (YieldsList-from_slice a.states.now cc) (YieldsList-from_slice a.nexts.now cc))) (YieldsList-from_slice a.resets.now cc)) in
+    let turn = YieldsList-turn road c.loop-state.yielded _ c.loop-state.yielded_by c.next.result c.next.new.self
+    ((c.in-Some.field-0-0-0, c.in-Some.field-0-0-1), c.in-Some.field-0-1) c.in-Some.is c.next.ensures.steps in
+    rw (length_push c.loop-state.yielded ((c.in-Some.field-0-0-0, c.in-Some.field-0-0-1), c.in-Some.field-0-1))
+    (c.loop-state.invariant ∙ ap (first_over a.bound) (latch_turn a.states.now a.nexts.now a.resets.now _ _ _ _ turn.0 turn.1)
+    ∙ over_past a.bound (c.in-Some.field-0-0-0.now ∷ c.in-Some.field-0-0-1.now ∷ c.in-Some.field-0-1.now ∷ []) _ (sym c.over_in.ensures ∙ c.in_default.is))
 
 pub returns : goal.returns
 returns c =
     let a = c.args in
-    latch_end a.bound a.states.now a.nexts.now a.resets.now _ c.loop-i-test.false ∙ ap found (sym c.loop-i.invariant.1)
+    let road =
+    YieldsList-at c.into_iter-state-iterator.ensures.into_iter_gives (YieldsList-from_zip (YieldsList-at c.zip-state-items.ensures.first
+    (YieldsList-from_zip (YieldsList-from_slice a.states.now cc) (YieldsList-from_slice a.nexts.now cc))) (YieldsList-from_slice a.resets.now cc)) in
+    let all = YieldsList-end road c.loop-state.yielded _ c.loop-state.yielded_by c.next.result c.next.new.self c.in-None.is c.next.ensures.steps in
+    sym (ap found (c.loop-state.invariant ∙ ap (first_over a.bound) (latch_end _ _ _ _ all.1)))

@@ -8,53 +8,29 @@ pub record_of-requires : goal.record_of-requires
 record_of-requires c =
     c.requires.0.few
 
-pub slice_bounds-renumber-end : goal.slice_bounds-renumber-end
-slice_bounds-renumber-end c =
+pub slice_bounds-lists-end : goal.slice_bounds-lists-end
+slice_bounds-lists-end c =
     front _ _ c.args.input_codes.now c.wide-i.ensures c.requires.1.inputs
 
-pub slice_bounds-renumber-end-2 : goal.slice_bounds-renumber-end-2
-slice_bounds-renumber-end-2 c =
+pub slice_bounds-lists-end-2 : goal.slice_bounds-lists-end-2
+slice_bounds-lists-end-2 c =
     front _ _ c.args.state_codes.now c.wide-l.ensures c.requires.1.states
 
-pub slice_bounds-renumber-end-3 : goal.slice_bounds-renumber-end-3
-slice_bounds-renumber-end-3 c =
+pub slice_bounds-lists-end-3 : goal.slice_bounds-lists-end-3
+slice_bounds-lists-end-3 c =
     front _ _ c.args.nexts.now c.wide-l.ensures c.requires.0.nexts
 
-pub slice_bounds-renumber-end-4 : goal.slice_bounds-renumber-end-4
-slice_bounds-renumber-end-4 c =
+pub slice_bounds-lists-end-4 : goal.slice_bounds-lists-end-4
+slice_bounds-lists-end-4 c =
     front _ _ c.args.resets.now c.wide-l.ensures c.requires.0.resets
 
-pub slice_bounds-renumber-end-5 : goal.slice_bounds-renumber-end-5
-slice_bounds-renumber-end-5 c =
+pub slice_bounds-lists-end-5 : goal.slice_bounds-lists-end-5
+slice_bounds-lists-end-5 c =
     front _ _ c.args.triples.now (ap (λ (x : ℕ). 3 * x) c.counted-g.ensures.same) c.requires.1.triples
 
-pub slice_bounds-renumber-end-6 : goal.slice_bounds-renumber-end-6
-slice_bounds-renumber-end-6 c =
+pub slice_bounds-lists-end-6 : goal.slice_bounds-lists-end-6
+slice_bounds-lists-end-6 c =
     front _ _ c.args.roots.now c.sum-r.ensures c.requires.0.roots
-
-pub shape_of-map : goal.shape_of-map
-shape_of-map c =
-    c.renumber.auto.map
-
-pub shape_of-next_images : goal.shape_of-next_images
-shape_of-next_images c =
-    c.renumber.auto.next_images
-
-pub shape_of-reset_images : goal.shape_of-reset_images
-shape_of-reset_images c =
-    c.renumber.auto.reset_images
-
-pub shape_of-root_images : goal.shape_of-root_images
-shape_of-root_images c =
-    c.renumber.auto.root_images
-
-pub shape_of-gates_out : goal.shape_of-gates_out
-shape_of-gates_out c =
-    c.renumber.auto.gates_out
-
-pub shape_of-scratch : goal.shape_of-scratch
-shape_of-scratch c =
-    c.renumber.auto.scratch
 
 pub returns : goal.returns
 returns c =

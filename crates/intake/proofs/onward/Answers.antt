@@ -1,6 +1,13 @@
 -- `onward` meets its contract: flags over 7, a refusal of renumbering, and what writing answers are its ways out, each by its law. Assumes nothing.
+use mathlib.Core.Path.{◌≡◌, ap, ◌∙◌}
+use Rattle.std.proofs.Common.{rules}
+use Rattle.std.specs.Prelude.{Err}
+use Rattle.std.proofs.lemmas.Result.{err_from_is_err_and}
 use Rattle.circuit.specs.Outcome.{outcome_of}
-use Rattle.intake.specs.Order.{Lists, Renumbering, taken_of, leaving}
+use Rattle.intake.specs.declared.OrderFault.{OrderFault}
+use Rattle.intake.specs.declared.OrderFault.TheVariants as F
+use Rattle.intake.specs.Order.{Ordering, Lists, Renumbering, taken_of, leaving, lists, images_in, seen}
+use Rattle.intake.proofs.Results.{was_ok, was_err}
 use Rattle.intake.proofs.Steps.{filled, over_seven, refused, written, unwritten}
 use Rattle.intake.proofs.onward.Goals as goal
 
@@ -22,14 +29,10 @@ returns-then-flags-gt7 c =
           };
       bytes = a.out.now;
     } in
-    over_seven a.used a.read a.flags l c.if-flags-gt7.true
+    over_seven a.read a.flags l c.if-flags-gt7.true
 
-pub renumbered-said-requires : goal.renumbered-said-requires
-renumbered-said-requires c =
-    (c.requires.0, c.requires.1)
-
-pub stored-end-requires : goal.stored-end-requires
-stored-end-requires c =
+pub returns-in_err-summary : goal.returns-in_err-summary
+returns-in_err-summary c =
     let a = c.args in
     let l : Lists =
     record {
@@ -47,56 +50,17 @@ stored-end-requires c =
       bytes = a.out.now;
     } in
     let q : Renumbering = leaving
-    (record { inputs = c.renumbered-said.new.input_codes; states = c.renumbered-said.new.state_codes; triples = c.renumbered-said.new.triples })
-    (outcome_of c.renumbered-said.result c.renumbered-said.new.map
-    c.renumbered-said.new.next_images c.renumbered-said.new.reset_images
-    c.renumbered-said.new.root_images c.renumbered-said.new.gates_out
-    c.renumbered-said.new.scratch) in
-    filled a.read a.flags a.gates.now (taken_of l.file) l.codes l.images c.requires.0 c.requires.1 _ q
-    c.renumbered-said.ensures c.in-Renumbered.is a.sizes.now c.requires.2
+    (record { inputs = c.renumbered.new.input_codes; states = c.renumbered.new.state_codes; triples = c.renumbered.new.triples })
+    (outcome_of c.renumbered.result c.renumbered.new.map c.renumbered.new.next_images c.renumbered.new.reset_images
+    c.renumbered.new.root_images c.renumbered.new.gates_out c.renumbered.new.scratch) in
+    let w = was_err _ _ _ _ c.map_err.ensures.cases c.in_err-summary.was in
+    let p = err_from_is_err_and c.from_residual.result c.from_residual.ensures.1 in
+    let t : c.in_err-summary.field-0.0 ≡ F.Unordered w.0 a.read = let k = w.2 in search rules in
+    ap (λ (y : Ordering). seen y (lists l.file q.codes (images_in q.outcome) l.bytes)) (p.1 ∙ ap (λ (e : OrderFault). Err e) (p.2 ∙ t))
+    ∙ refused a.read a.flags l c.if-flags-gt7.false q c.renumbered.ensures w.0 w.1
 
-pub shape_of-input_codes-in-Written : goal.shape_of-input_codes-in-Written
-shape_of-input_codes-in-Written c =
-    c.renumbered-said.auto.input_codes
-
-pub shape_of-state_codes-in-Written : goal.shape_of-state_codes-in-Written
-shape_of-state_codes-in-Written c =
-    c.renumbered-said.auto.state_codes
-
-pub shape_of-triples-in-Written : goal.shape_of-triples-in-Written
-shape_of-triples-in-Written c =
-    c.renumbered-said.auto.triples
-
-pub shape_of-map-in-Written : goal.shape_of-map-in-Written
-shape_of-map-in-Written c =
-    c.renumbered-said.auto.map
-
-pub shape_of-next_images-in-Written : goal.shape_of-next_images-in-Written
-shape_of-next_images-in-Written c =
-    c.renumbered-said.auto.next_images
-
-pub shape_of-reset_images-in-Written : goal.shape_of-reset_images-in-Written
-shape_of-reset_images-in-Written c =
-    c.renumbered-said.auto.reset_images
-
-pub shape_of-root_images-in-Written : goal.shape_of-root_images-in-Written
-shape_of-root_images-in-Written c =
-    c.renumbered-said.auto.root_images
-
-pub shape_of-gates_out-in-Written : goal.shape_of-gates_out-in-Written
-shape_of-gates_out-in-Written c =
-    c.renumbered-said.auto.gates_out
-
-pub shape_of-scratch-in-Written : goal.shape_of-scratch-in-Written
-shape_of-scratch-in-Written c =
-    c.renumbered-said.auto.scratch
-
-pub shape_of-out-in-Written : goal.shape_of-out-in-Written
-shape_of-out-in-Written c =
-    c.stored-end.auto.out
-
-pub returns-in-Written : goal.returns-in-Written
-returns-in-Written c =
+pub stored-requires : goal.stored-requires
+stored-requires c =
     let a = c.args in
     let l : Lists =
     record {
@@ -114,56 +78,14 @@ returns-in-Written c =
       bytes = a.out.now;
     } in
     let q : Renumbering = leaving
-    (record { inputs = c.renumbered-said.new.input_codes; states = c.renumbered-said.new.state_codes; triples = c.renumbered-said.new.triples })
-    (outcome_of c.renumbered-said.result c.renumbered-said.new.map
-    c.renumbered-said.new.next_images c.renumbered-said.new.reset_images
-    c.renumbered-said.new.root_images c.renumbered-said.new.gates_out
-    c.renumbered-said.new.scratch) in
-    written a.used a.read a.flags l c.if-flags-gt7.false q c.renumbered-said.ensures _ c.in-Renumbered.is
-    c.stored-end.result c.stored-end.new.out c.stored-end.ensures _ c.in-Written.is
+    (record { inputs = c.renumbered.new.input_codes; states = c.renumbered.new.state_codes; triples = c.renumbered.new.triples })
+    (outcome_of c.renumbered.result c.renumbered.new.map c.renumbered.new.next_images c.renumbered.new.reset_images
+    c.renumbered.new.root_images c.renumbered.new.gates_out c.renumbered.new.scratch) in
+    filled a.read a.flags a.gates.now (taken_of l.file) l.codes l.images c.requires.0 c.requires.1 _ q c.renumbered.ensures
+    (was_ok _ _ _ _ c.map_err.ensures.cases c.in_ok-summary.was) a.sizes.now c.requires.2
 
-pub shape_of-input_codes-in-Unwritten : goal.shape_of-input_codes-in-Unwritten
-shape_of-input_codes-in-Unwritten c =
-    c.renumbered-said.auto.input_codes
-
-pub shape_of-state_codes-in-Unwritten : goal.shape_of-state_codes-in-Unwritten
-shape_of-state_codes-in-Unwritten c =
-    c.renumbered-said.auto.state_codes
-
-pub shape_of-triples-in-Unwritten : goal.shape_of-triples-in-Unwritten
-shape_of-triples-in-Unwritten c =
-    c.renumbered-said.auto.triples
-
-pub shape_of-map-in-Unwritten : goal.shape_of-map-in-Unwritten
-shape_of-map-in-Unwritten c =
-    c.renumbered-said.auto.map
-
-pub shape_of-next_images-in-Unwritten : goal.shape_of-next_images-in-Unwritten
-shape_of-next_images-in-Unwritten c =
-    c.renumbered-said.auto.next_images
-
-pub shape_of-reset_images-in-Unwritten : goal.shape_of-reset_images-in-Unwritten
-shape_of-reset_images-in-Unwritten c =
-    c.renumbered-said.auto.reset_images
-
-pub shape_of-root_images-in-Unwritten : goal.shape_of-root_images-in-Unwritten
-shape_of-root_images-in-Unwritten c =
-    c.renumbered-said.auto.root_images
-
-pub shape_of-gates_out-in-Unwritten : goal.shape_of-gates_out-in-Unwritten
-shape_of-gates_out-in-Unwritten c =
-    c.renumbered-said.auto.gates_out
-
-pub shape_of-scratch-in-Unwritten : goal.shape_of-scratch-in-Unwritten
-shape_of-scratch-in-Unwritten c =
-    c.renumbered-said.auto.scratch
-
-pub shape_of-out-in-Unwritten : goal.shape_of-out-in-Unwritten
-shape_of-out-in-Unwritten c =
-    c.stored-end.auto.out
-
-pub returns-in-Unwritten : goal.returns-in-Unwritten
-returns-in-Unwritten c =
+pub returns-in_err-written : goal.returns-in_err-written
+returns-in_err-written c =
     let a = c.args in
     let l : Lists =
     record {
@@ -181,52 +103,18 @@ returns-in-Unwritten c =
       bytes = a.out.now;
     } in
     let q : Renumbering = leaving
-    (record { inputs = c.renumbered-said.new.input_codes; states = c.renumbered-said.new.state_codes; triples = c.renumbered-said.new.triples })
-    (outcome_of c.renumbered-said.result c.renumbered-said.new.map
-    c.renumbered-said.new.next_images c.renumbered-said.new.reset_images
-    c.renumbered-said.new.root_images c.renumbered-said.new.gates_out
-    c.renumbered-said.new.scratch) in
-    unwritten a.used a.read a.flags l c.if-flags-gt7.false q c.renumbered-said.ensures _ c.in-Renumbered.is
-    c.stored-end.result c.stored-end.new.out c.stored-end.ensures _ _ c.in-Unwritten.is
+    (record { inputs = c.renumbered.new.input_codes; states = c.renumbered.new.state_codes; triples = c.renumbered.new.triples })
+    (outcome_of c.renumbered.result c.renumbered.new.map c.renumbered.new.next_images c.renumbered.new.reset_images
+    c.renumbered.new.root_images c.renumbered.new.gates_out c.renumbered.new.scratch) in
+    let w = was_err _ _ _ _ c.map_err-2.ensures.cases c.in_err-written.was in
+    let p = err_from_is_err_and c.from_residual-in_err-written.result c.from_residual-in_err-written.ensures.1 in
+    let t : c.in_err-written.field-0.0 ≡ F.Unstored w.0 a.read c.in_ok-summary.summary.made = let k = w.2 in search rules in
+    ap (λ (y : Ordering). seen y (lists l.file q.codes (images_in q.outcome) c.stored.new.out)) (p.1 ∙ ap (λ (e : OrderFault). Err e) (p.2 ∙ t))
+    ∙ unwritten a.read a.flags l c.if-flags-gt7.false q c.renumbered.ensures _ (was_ok _ _ _ _ c.map_err.ensures.cases c.in_ok-summary.was)
+    c.stored.result c.stored.new.out c.stored.ensures w.0 w.1
 
-pub shape_of-input_codes-in-Refused : goal.shape_of-input_codes-in-Refused
-shape_of-input_codes-in-Refused c =
-    c.renumbered-said.auto.input_codes
-
-pub shape_of-state_codes-in-Refused : goal.shape_of-state_codes-in-Refused
-shape_of-state_codes-in-Refused c =
-    c.renumbered-said.auto.state_codes
-
-pub shape_of-triples-in-Refused : goal.shape_of-triples-in-Refused
-shape_of-triples-in-Refused c =
-    c.renumbered-said.auto.triples
-
-pub shape_of-map-in-Refused : goal.shape_of-map-in-Refused
-shape_of-map-in-Refused c =
-    c.renumbered-said.auto.map
-
-pub shape_of-next_images-in-Refused : goal.shape_of-next_images-in-Refused
-shape_of-next_images-in-Refused c =
-    c.renumbered-said.auto.next_images
-
-pub shape_of-reset_images-in-Refused : goal.shape_of-reset_images-in-Refused
-shape_of-reset_images-in-Refused c =
-    c.renumbered-said.auto.reset_images
-
-pub shape_of-root_images-in-Refused : goal.shape_of-root_images-in-Refused
-shape_of-root_images-in-Refused c =
-    c.renumbered-said.auto.root_images
-
-pub shape_of-gates_out-in-Refused : goal.shape_of-gates_out-in-Refused
-shape_of-gates_out-in-Refused c =
-    c.renumbered-said.auto.gates_out
-
-pub shape_of-scratch-in-Refused : goal.shape_of-scratch-in-Refused
-shape_of-scratch-in-Refused c =
-    c.renumbered-said.auto.scratch
-
-pub returns-in-Refused : goal.returns-in-Refused
-returns-in-Refused c =
+pub returns : goal.returns
+returns c =
     let a = c.args in
     let l : Lists =
     record {
@@ -244,9 +132,8 @@ returns-in-Refused c =
       bytes = a.out.now;
     } in
     let q : Renumbering = leaving
-    (record { inputs = c.renumbered-said.new.input_codes; states = c.renumbered-said.new.state_codes; triples = c.renumbered-said.new.triples })
-    (outcome_of c.renumbered-said.result c.renumbered-said.new.map
-    c.renumbered-said.new.next_images c.renumbered-said.new.reset_images
-    c.renumbered-said.new.root_images c.renumbered-said.new.gates_out
-    c.renumbered-said.new.scratch) in
-    refused a.used a.read a.flags l c.if-flags-gt7.false q c.renumbered-said.ensures _ c.in-Refused.is
+    (record { inputs = c.renumbered.new.input_codes; states = c.renumbered.new.state_codes; triples = c.renumbered.new.triples })
+    (outcome_of c.renumbered.result c.renumbered.new.map c.renumbered.new.next_images c.renumbered.new.reset_images
+    c.renumbered.new.root_images c.renumbered.new.gates_out c.renumbered.new.scratch) in
+    written a.read a.flags l c.if-flags-gt7.false q c.renumbered.ensures _ (was_ok _ _ _ _ c.map_err.ensures.cases c.in_ok-summary.was)
+    c.stored.result c.stored.new.out c.stored.ensures _ (was_ok _ _ _ _ c.map_err-2.ensures.cases c.in_ok-written.was)

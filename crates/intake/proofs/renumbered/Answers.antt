@@ -1,22 +1,45 @@
 -- `renumbered` meets its contract: what is expanded is renumbered, and any other answer of expanding is the refusal of that name. Assumes nothing.
-use mathlib.Core.Path.{refl, ap}
-use Prim.Native.Nat.{ℕ, ◌*◌}
-use Rattle.ordered.specs.declared.Expansion.TheVariants.{Expanded, TooBig, Misshapen, Short}
+use mathlib.Core.Path.{◌≡◌, refl, ap, ◌∙◌}
+use Rattle.std.specs.Prelude.{Err}
+use Rattle.std.proofs.lemmas.Result.{err_from_is_err_and}
+use Rattle.circuit.specs.declared.Refusal.{Refusal}
+use Rattle.circuit.specs.Answer.{Answer}
+use Rattle.circuit.specs.Outcome as C
+use Rattle.circuit.specs.Outcome.{outcome_of}
 use Rattle.ordered.specs.Expand as E
-use Rattle.circuit.specs.Outcome.{outcome_of, untouched}
-use Rattle.circuit.specs.declared.Refusal.TheVariants as R
-use Rattle.intake.specs.Order.{Images, Taken, handed}
-use Rattle.intake.proofs.Steps.{front, coded, comes_to_lem}
+use Rattle.intake.specs.Order.{Images, Taken, refusal_of, leaving}
+use Rattle.intake.proofs.Results.{was_ok, was_err}
+use Rattle.intake.proofs.Steps.{coded, comes_to_lem}
 use Rattle.intake.proofs.renumbered.Goals as goal
 
-pub slice_bounds-expand-end : goal.slice_bounds-expand-end
-slice_bounds-expand-end c =
-    front _ _ c.args.gates.now (ap (λ (x : ℕ). 2 * x) c.counted-g.ensures.same) c.requires.1
+pub returns-in_err-map_err : goal.returns-in_err-map_err
+returns-in_err-map_err c =
+    let a = c.args in
+    let taken : Taken = record { nexts = a.nexts.now; resets = a.resets.now; roots = a.roots.now } in
+    let codes : E.Lists = record { inputs = a.input_codes.now; states = a.state_codes.now; triples = a.triples.now } in
+    let m : Images =
+    record {
+      map = a.map.now;
+      next_images = a.next_images.now;
+      reset_images = a.reset_images.now;
+      root_images = a.root_images.now;
+      gates_out = a.gates_out.now;
+      scratch = a.scratch.now;
+    } in
+    let x : E.Outcome =
+    E.seen c.expand.result (record { inputs = c.expand.new.input_codes; states = c.expand.new.state_codes; triples = c.expand.new.triples }) in
+    let w = was_err _ _ _ _ c.map_err.ensures.cases c.in_err-map_err.was in
+    let p = err_from_is_err_and c.from_residual.result c.from_residual.ensures.1 in
+    let t : c.in_err-map_err.field-0.0 ≡ refusal_of w.0 = w.2 in
+    let left : Answer → C.Outcome = λ y. outcome_of y m.map m.next_images m.reset_images m.root_images m.gates_out m.scratch in
+    ap (λ (y : Answer). leaving x.lists (left y)) (p.1 ∙ ap (λ (e : Refusal). Err e) (p.2 ∙ t))
+    ∙ comes_to_lem a.read a.flags a.gates.now taken codes m c.wide.result c.wide-2.result c.counted-g.result x c.wide.ensures c.wide-2.ensures
+    c.counted-g.ensures.same c.expand.ensures _ (left (Err (refusal_of w.0))) w.1 refl
 
 pub numbered-requires : goal.numbered-requires
 numbered-requires c =
     let a = c.args in
-    let c₁ : Taken = record { nexts = a.nexts.now; resets = a.resets.now; roots = a.roots.now } in
+    let taken : Taken = record { nexts = a.nexts.now; resets = a.resets.now; roots = a.roots.now } in
     let codes : E.Lists = record { inputs = a.input_codes.now; states = a.state_codes.now; triples = a.triples.now } in
     let m : Images =
     record {
@@ -28,57 +51,16 @@ numbered-requires c =
       scratch = a.scratch.now;
     } in
     let x : E.Outcome =
-    E.seen c.expand-said.result (record {
-      inputs = c.expand-said.new.input_codes;
-      states = c.expand-said.new.state_codes;
-      triples = c.expand-said.new.triples;
-    }) in (
+    E.seen c.expand.result (record { inputs = c.expand.new.input_codes; states = c.expand.new.state_codes; triples = c.expand.new.triples }) in (
       c.requires.0,
-      coded a.read a.flags a.gates.now c₁ codes m c.wide.result c.wide-2.result
-          c.counted-g.result x c.wide.ensures c.wide-2.ensures c.counted-g.ensures.same c.expand-said.ensures
-          c.in-Expanded.is c.requires.1,
+      coded a.read a.flags a.gates.now taken codes m c.wide.result c.wide-2.result c.counted-g.result x c.wide.ensures c.wide-2.ensures
+          c.counted-g.ensures.same c.expand.ensures (was_ok _ _ _ _ c.map_err.ensures.cases c.in_ok-map_err.was) c.requires.1,
     )
 
-pub shape_of-input_codes-in-Expanded : goal.shape_of-input_codes-in-Expanded
-shape_of-input_codes-in-Expanded c =
-    c.expand-said.auto.input_codes
-
-pub shape_of-state_codes-in-Expanded : goal.shape_of-state_codes-in-Expanded
-shape_of-state_codes-in-Expanded c =
-    c.expand-said.auto.state_codes
-
-pub shape_of-triples-in-Expanded : goal.shape_of-triples-in-Expanded
-shape_of-triples-in-Expanded c =
-    c.expand-said.auto.triples
-
-pub shape_of-map : goal.shape_of-map
-shape_of-map c =
-    c.numbered.auto.map
-
-pub shape_of-next_images : goal.shape_of-next_images
-shape_of-next_images c =
-    c.numbered.auto.next_images
-
-pub shape_of-reset_images : goal.shape_of-reset_images
-shape_of-reset_images c =
-    c.numbered.auto.reset_images
-
-pub shape_of-root_images : goal.shape_of-root_images
-shape_of-root_images c =
-    c.numbered.auto.root_images
-
-pub shape_of-gates_out : goal.shape_of-gates_out
-shape_of-gates_out c =
-    c.numbered.auto.gates_out
-
-pub shape_of-scratch : goal.shape_of-scratch
-shape_of-scratch c =
-    c.numbered.auto.scratch
-
-pub returns-in-Expanded : goal.returns-in-Expanded
-returns-in-Expanded c =
+pub returns : goal.returns
+returns c =
     let a = c.args in
-    let c₁ : Taken = record { nexts = a.nexts.now; resets = a.resets.now; roots = a.roots.now } in
+    let taken : Taken = record { nexts = a.nexts.now; resets = a.resets.now; roots = a.roots.now } in
     let codes : E.Lists = record { inputs = a.input_codes.now; states = a.state_codes.now; triples = a.triples.now } in
     let m : Images =
     record {
@@ -90,122 +72,8 @@ returns-in-Expanded c =
       scratch = a.scratch.now;
     } in
     let x : E.Outcome =
-    E.seen c.expand-said.result (record {
-      inputs = c.expand-said.new.input_codes;
-      states = c.expand-said.new.state_codes;
-      triples = c.expand-said.new.triples;
-    }) in
-    comes_to_lem a.read a.flags a.gates.now c₁ codes m c.wide.result c.wide-2.result c.counted-g.result x
-    c.wide.ensures c.wide-2.ensures c.counted-g.ensures.same c.expand-said.ensures Expanded (outcome_of
-    c.numbered.result c.numbered.new.map c.numbered.new.next_images
-    c.numbered.new.reset_images c.numbered.new.root_images
-    c.numbered.new.gates_out c.numbered.new.scratch)
-    c.in-Expanded.is c.numbered.ensures
-
-pub shape_of-input_codes-in-TooBig : goal.shape_of-input_codes-in-TooBig
-shape_of-input_codes-in-TooBig c =
-    c.expand-said.auto.input_codes
-
-pub shape_of-state_codes-in-TooBig : goal.shape_of-state_codes-in-TooBig
-shape_of-state_codes-in-TooBig c =
-    c.expand-said.auto.state_codes
-
-pub shape_of-triples-in-TooBig : goal.shape_of-triples-in-TooBig
-shape_of-triples-in-TooBig c =
-    c.expand-said.auto.triples
-
-pub returns-in-TooBig : goal.returns-in-TooBig
-returns-in-TooBig c =
-    let a = c.args in
-    let c₁ : Taken = record { nexts = a.nexts.now; resets = a.resets.now; roots = a.roots.now } in
-    let codes : E.Lists = record { inputs = a.input_codes.now; states = a.state_codes.now; triples = a.triples.now } in
-    let m : Images =
-    record {
-      map = a.map.now;
-      next_images = a.next_images.now;
-      reset_images = a.reset_images.now;
-      root_images = a.root_images.now;
-      gates_out = a.gates_out.now;
-      scratch = a.scratch.now;
-    } in
-    let x : E.Outcome =
-    E.seen c.expand-said.result (record {
-      inputs = c.expand-said.new.input_codes;
-      states = c.expand-said.new.state_codes;
-      triples = c.expand-said.new.triples;
-    }) in
-    comes_to_lem a.read a.flags a.gates.now c₁ codes m c.wide.result c.wide-2.result c.counted-g.result x
-    c.wide.ensures c.wide-2.ensures c.counted-g.ensures.same c.expand-said.ensures TooBig (untouched (handed
-    a.read a.flags c₁ x.lists m) R.TooBig) c.in-TooBig.is refl
-
-pub shape_of-input_codes-in-Misshapen : goal.shape_of-input_codes-in-Misshapen
-shape_of-input_codes-in-Misshapen c =
-    c.expand-said.auto.input_codes
-
-pub shape_of-state_codes-in-Misshapen : goal.shape_of-state_codes-in-Misshapen
-shape_of-state_codes-in-Misshapen c =
-    c.expand-said.auto.state_codes
-
-pub shape_of-triples-in-Misshapen : goal.shape_of-triples-in-Misshapen
-shape_of-triples-in-Misshapen c =
-    c.expand-said.auto.triples
-
-pub returns-in-Misshapen : goal.returns-in-Misshapen
-returns-in-Misshapen c =
-    let a = c.args in
-    let c₁ : Taken = record { nexts = a.nexts.now; resets = a.resets.now; roots = a.roots.now } in
-    let codes : E.Lists = record { inputs = a.input_codes.now; states = a.state_codes.now; triples = a.triples.now } in
-    let m : Images =
-    record {
-      map = a.map.now;
-      next_images = a.next_images.now;
-      reset_images = a.reset_images.now;
-      root_images = a.root_images.now;
-      gates_out = a.gates_out.now;
-      scratch = a.scratch.now;
-    } in
-    let x : E.Outcome =
-    E.seen c.expand-said.result (record {
-      inputs = c.expand-said.new.input_codes;
-      states = c.expand-said.new.state_codes;
-      triples = c.expand-said.new.triples;
-    }) in
-    comes_to_lem a.read a.flags a.gates.now c₁ codes m c.wide.result c.wide-2.result c.counted-g.result x
-    c.wide.ensures c.wide-2.ensures c.counted-g.ensures.same c.expand-said.ensures Misshapen (untouched (handed
-    a.read a.flags c₁ x.lists m) R.Misshapen) c.in-Misshapen.is refl
-
-pub shape_of-input_codes-in-Short : goal.shape_of-input_codes-in-Short
-shape_of-input_codes-in-Short c =
-    c.expand-said.auto.input_codes
-
-pub shape_of-state_codes-in-Short : goal.shape_of-state_codes-in-Short
-shape_of-state_codes-in-Short c =
-    c.expand-said.auto.state_codes
-
-pub shape_of-triples-in-Short : goal.shape_of-triples-in-Short
-shape_of-triples-in-Short c =
-    c.expand-said.auto.triples
-
-pub returns-in-Short : goal.returns-in-Short
-returns-in-Short c =
-    let a = c.args in
-    let c₁ : Taken = record { nexts = a.nexts.now; resets = a.resets.now; roots = a.roots.now } in
-    let codes : E.Lists = record { inputs = a.input_codes.now; states = a.state_codes.now; triples = a.triples.now } in
-    let m : Images =
-    record {
-      map = a.map.now;
-      next_images = a.next_images.now;
-      reset_images = a.reset_images.now;
-      root_images = a.root_images.now;
-      gates_out = a.gates_out.now;
-      scratch = a.scratch.now;
-    } in
-    let x : E.Outcome =
-    E.seen c.expand-said.result (record {
-      inputs = c.expand-said.new.input_codes;
-      states = c.expand-said.new.state_codes;
-      triples = c.expand-said.new.triples;
-    }) in
-    comes_to_lem a.read a.flags a.gates.now c₁ codes m c.wide.result c.wide-2.result c.counted-g.result x
-    c.wide.ensures c.wide-2.ensures c.counted-g.ensures.same c.expand-said.ensures Short (untouched (handed
-    a.read a.flags c₁ x.lists m) R.Short) c.in-Short.is refl
+    E.seen c.expand.result (record { inputs = c.expand.new.input_codes; states = c.expand.new.state_codes; triples = c.expand.new.triples }) in
+    comes_to_lem a.read a.flags a.gates.now taken codes m c.wide.result c.wide-2.result c.counted-g.result x c.wide.ensures c.wide-2.ensures
+    c.counted-g.ensures.same c.expand.ensures _ (outcome_of c.numbered.result c.numbered.new.map c.numbered.new.next_images
+    c.numbered.new.reset_images c.numbered.new.root_images c.numbered.new.gates_out c.numbered.new.scratch)
+    (was_ok _ _ _ _ c.map_err.ensures.cases c.in_ok-map_err.was) c.numbered.ensures

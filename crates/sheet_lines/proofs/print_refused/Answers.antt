@@ -7,5 +7,5 @@ use Rattle.sheet_lines.proofs.print_refused.Goals as goal
 
 pub returns : goal.returns
 returns c =
-    put_same c.put_refused.ensures (refused_same c.args.why _ _ (c.wide.ensures ∙ c.number-number.ensures)
-    (c.wide-2.ensures ∙ c.code.ensures ∙ ap (λ (l : Lit). l.0) c.literal-l.ensures))
+    put_same _ _ c.put_refused.ensures
+    (refused_same c.args.why _ _ c.number-number.ensures (c.code.ensures ∙ ap (λ (l : Lit). l.0) c.literal-l.ensures))

@@ -1,5 +1,4 @@
 -- `sheet_lines::put_gates` meets its contract: a turn of the loop puts the line of one gate more (`Listing`). Assumes nothing.
-use Prim.Native.Nat.{◌-◌}
 use Rattle.circuit.specs.Ordered.{gates_from}
 use Rattle.circuit.specs.Outcome.{pairs_of}
 use Rattle.sheet_lines.specs.Lines.{gate_line}
@@ -8,6 +7,3 @@ use Rattle.sheet_lines.proofs.put_gates.Given as goal
 
 abbrev pub invariant-loop-j : goal.invariant-loop-j
 invariant-loop-j l = Listing gate_line (gates_from l.first (pairs_of l.gates)) l.initial.out l.at l.out l.j l.place
-
-abbrev pub decreases-loop-j : goal.decreases-loop-j
-decreases-loop-j l = l.n - l.j

@@ -1,27 +1,22 @@
--- `sheet_read::first_over` meets its contract: the numbers passed are within the bound, so the first over it is the first of those left. Assumes nothing.
-use mathlib.Core.Path.{refl, sym, ap, ◌∙◌}
-use native.Mathlib.Omega.{arith}
-use lib.ListN.{get_or}
-use Rattle.sheet_read.specs.Promise.{offender}
-use Rattle.sheet_read.proofs.Headers.{over_here, over_on, over_end}
+-- `sheet_read::first_over` meets its contract: the library's search for a number over the bound finds the first of them. Assumes nothing.
+use Rattle.std.proofs.Common.{rules, ◌≡◌, ◌∙◌}
+use Rattle.std.specs.Prelude.{Option, Some, None, option_map, ltb}
+use Prim.Native.Nat.{ℕ}
+use mathlib.Core.Path.{refl}
+use borrow.Author.Tests.{tests}
+use Rattle.std.proofs.lemmas.Iterator.{YieldsList-from_slice}
+use Rattle.std.proofs.lemmas.Iterator.Consumers.{YieldsList-from_copied}
+use Rattle.std.proofs.lemmas.Iterator.Search.{find_from_yields_List}
+use Rattle.sheet_read.proofs.Headers.{first_over_lem}
 use Rattle.sheet_read.proofs.first_over.Goals as goal
 
-pub loop-i-init : goal.loop-i-init
-loop-i-init c = refl
-
-pub returns-then-bound-numbers : goal.returns-then-bound-numbers
-returns-then-bound-numbers c =
-    let a = c.args in
-    over_here a.bound a.numbers.now c.loop-i.i (get_or a.numbers.now c.loop-i.i 0) (omega arith) c.if-bound-numbers.true refl
-    ∙ ap offender (sym c.loop-i.invariant)
-
-pub loop-i-preserved : goal.loop-i-preserved
-loop-i-preserved c =
-    let a = c.args in
-    c.loop-i.invariant ∙ over_on a.bound a.numbers.now c.loop-i.i (get_or a.numbers.now c.loop-i.i 0) (omega arith)
-    c.if-bound-numbers.false refl
+same : (o : Option ℕ) → o ≡ option_map (λ n. n) o
+same None = refl
+same (Some n) = refl
 
 pub returns : goal.returns
 returns c =
-    over_end c.args.bound c.args.numbers.now c.loop-i.i (omega arith) ∙ ap offender
-    (sym c.loop-i.invariant)
+    let a = c.args in
+    same c.find.result
+    ∙ find_from_yields_List (λ n. ltb a.bound n) _ _ _ c.find.ensures.ran (YieldsList-from_copied (YieldsList-from_slice a.numbers.now cc))
+    (λ x b q k. search (rules, tests)) ∙ first_over_lem a.bound a.numbers.now

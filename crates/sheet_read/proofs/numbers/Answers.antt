@@ -1,36 +1,29 @@
 -- `sheet_read::numbers` meets its contract: a turn of the loop reads one number more, so that the whole run is those read and the run from the place
 -- reached (`Filling`). Assumes nothing.
-use mathlib.Core.Path.{sym, ◌∙◌}
+use Rattle.std.proofs.Common.{sym, ◌∙◌}
 use native.Mathlib.Omega.{arith}
+use Rattle.std.proofs.lemmas.List.{set-get_or}
+use Rattle.std.proofs.lemmas.Result.{err_from_is_err_and}
 use Rattle.token.proofs.Theorems.{binary_uses}
-use Rattle.sheet_read.proofs.Runs.{filling_none, filling_more, filling_broken, filling_all}
+use Rattle.sheet_read.proofs.Runs.{filling_more, filling_broken, filling_all}
 use Rattle.sheet_read.proofs.numbers.Goals as goal
 
-pub loop-i-init : goal.loop-i-init
-loop-i-init c = filling_none _ _ _
+pub returns-in_err-number : goal.returns-in_err-number
+returns-in_err-number c =
+    let f = filling_broken c.loop-cell.invariant _ (omega arith) (sym c.binary_uint.ensures ∙ c.in_err-number.was) in
+    let p = err_from_is_err_and c.from_residual.result c.from_residual.ensures.1 in
+    rw (p.1, p.2, set-get_or) f
 
 pub overflow_add-place : goal.overflow_add-place
 overflow_add-place c =
     omega (
       arith,
-      binary_uses c.args.s.now c.loop-i.place c.in-Value.value c.in-Value.used
-          (sym c.binary_uint-token.ensures ∙ c.in-Value.is),
+      binary_uses c.args.s.now c.loop-cell.place _ _ (sym c.binary_uint.ensures ∙ c.in_ok-number.was),
     )
 
-pub loop-i-preserved : goal.loop-i-preserved
-loop-i-preserved c =
-    filling_more c.loop-i.invariant _ _ (omega arith) (sym c.binary_uint-token.ensures ∙ c.in-Value.is)
-
-pub shape_of-list-in-Refused : goal.shape_of-list-in-Refused
-shape_of-list-in-Refused c =
-    c.loop-i.invariant.same
-
-pub returns-in-Refused : goal.returns-in-Refused
-returns-in-Refused c =
-    filling_broken c.loop-i.invariant _ _ (omega arith) (sym c.binary_uint-token.ensures ∙ c.in-Refused.is)
-
-pub shape_of-list : goal.shape_of-list
-shape_of-list c = c.loop-i.invariant.same
+pub loop-cell-preserved : goal.loop-cell-preserved
+loop-cell-preserved c =
+    filling_more c.loop-cell.invariant _ (omega arith) (sym c.binary_uint.ensures ∙ c.in_ok-number.was)
 
 pub returns : goal.returns
-returns c = filling_all c.loop-i.invariant (omega arith)
+returns c = filling_all c.loop-cell.invariant (omega arith)

@@ -1,19 +1,13 @@
--- `text::digit_count` meets its contract: a turn of the loop counts seven digits. Assumes nothing.
+-- `text::digit_count` meets its contract: a number has a digit more from each power of ten on. Assumes nothing.
+use mathlib.Core.Path.{sym}
 use native.Mathlib.Omega.{arith}
-use Rattle.text.proofs.Digits.{digits_few, count_seven}
+use Rattle.text.proofs.Digits.{count_1, count_power}
 use Rattle.text.proofs.digit_count.Goals as goal
 
-pub loop-rest-init : goal.loop-rest-init
-loop-rest-init c = (omega arith, omega arith)
-
-pub overflow_add-n : goal.overflow_add-n
-overflow_add-n c = omega (arith, digits_few c.args.v (omega arith))
-
-pub loop-rest-preserved : goal.loop-rest-preserved
-loop-rest-preserved c = (omega arith, omega (arith, count_seven c.loop-rest.rest (omega arith) (omega arith)))
-
-pub overflow_add-result : goal.overflow_add-result
-overflow_add-result c = omega (arith, digits_few c.args.v (omega arith))
+pub returns-then-v-lt10 : goal.returns-then-v-lt10
+returns-then-v-lt10 c = sym (count_1 _ c.if-v-lt10.true)
 
 pub returns : goal.returns
-returns c = omega arith
+returns c =
+    let log = c.ilog10.ensures in
+    sym (count_power _ _ log.power_le log.next_power_gt (omega arith))

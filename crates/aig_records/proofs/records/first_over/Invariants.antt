@@ -1,11 +1,8 @@
--- After i turns `found` is what stands in the first i records.
-use Rattle.std.proofs.Common.{◌-◌, ◌≡◌, ◌≤◌}
-use Rattle.std.specs.Prelude.{take}
-use Rattle.aig_records.specs.Checks.{over_in}
+-- Nothing in the records before this one is over the bound, so the first of what is left is the first of all.
+use Rattle.std.proofs.Common.{◌≡◌, drop}
+use Rattle.circuit.specs.Circuit.{first_over}
+use Rattle.aig_records.specs.Records.{flat_of}
 use Rattle.aig_records.proofs.records.first_over.Given as goal
 
-abbrev pub invariant-loop-i : goal.invariant-loop-i
-invariant-loop-i l = record { within : l.i ≤ l.n; is : l.found ≡ over_in l.top (take l.i l.gates) }
-
-abbrev pub decreases-loop-i : goal.decreases-loop-i
-decreases-loop-i l = l.n - l.i
+abbrev pub invariant-loop-gate : goal.invariant-loop-gate
+invariant-loop-gate l = first_over l.bound (flat_of l.gates) ≡ first_over l.bound (flat_of (drop l.gate-index l.gates))

@@ -21,8 +21,5 @@ pub loop-j-preserved : goal.loop-j-preserved
 loop-j-preserved c =
     gating_more c.loop-j.invariant _ _ (omega arith) (omega arith) c.put_gate-place.ensures
 
-pub shape_of-out : goal.shape_of-out
-shape_of-out c = c.loop-j.invariant.left.kept
-
 pub returns : goal.returns
 returns c = gating_all c.loop-j.invariant (omega arith)

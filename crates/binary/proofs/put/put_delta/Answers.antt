@@ -1,6 +1,5 @@
 -- `binary::put::put_delta` meets its contract: its bytes one by one are those of the shortest groups. Assumes nothing.
 use native.Mathlib.Omega.{arith}
-use lib.ListN.{length-set}
 use Rattle.binary.proofs.Putting.{delta_1, delta_2, delta_3}
 use Rattle.binary.proofs.put.put_delta.Goals as goal
 
@@ -9,19 +8,10 @@ returns-then-d-lt128 c =
     let a = c.args in
     delta_1 a.out.now a.at a.d (omega arith)
 
-pub bounds-out-at-then-d-lt16384 : goal.bounds-out-at-then-d-lt16384
-bounds-out-at-then-d-lt16384 c = simp length-set (omega arith)
-
 pub returns-then-d-lt16384 : goal.returns-then-d-lt16384
 returns-then-d-lt16384 c =
     let a = c.args in
     delta_2 a.out.now a.at a.d (omega arith) (omega arith)
-
-pub bounds-out-at-3 : goal.bounds-out-at-3
-bounds-out-at-3 c = simp length-set (omega arith)
-
-pub bounds-out-at-4 : goal.bounds-out-at-4
-bounds-out-at-4 c = simp length-set (omega arith)
 
 pub returns : goal.returns
 returns c =

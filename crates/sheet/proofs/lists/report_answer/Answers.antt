@@ -12,9 +12,9 @@ pub slice_bounds-resets-end : goal.slice_bounds-resets-end
 slice_bounds-resets-end c =
     omega (arith, c.requires.0.states, bounds c.requires.0.taken)
 
-pub slice_bounds-renumber-end : goal.slice_bounds-renumber-end
-slice_bounds-renumber-end c =
-    sym (length-take-le _ _ (omega (arith, zeros_long c.no_resets-resets.ensures, c.requires.0.states, bounds c.requires.0.taken)))
+pub slice_bounds-lists-end : goal.slice_bounds-lists-end
+slice_bounds-lists-end c =
+    sym (length-take-le _ _ (omega (arith, zeros_long c.filled-resets.ensures.all, c.requires.0.states, bounds c.requires.0.taken)))
 
 pub overflow_cast-input_count : goal.overflow_cast-input_count
 overflow_cast-input_count c =
@@ -22,54 +22,54 @@ overflow_cast-input_count c =
 
 pub slice_bounds-print_ordered-end : goal.slice_bounds-print_ordered-end
 slice_bounds-print_ordered-end c =
-    let renumber_next_images_kept = c.renumber-answer.auto.next_images in
+    let renumber_next_images_kept = c.renumber-answer.auto.room in
     omega (arith, renumber_next_images_kept, c.requires.1.next_images, c.requires.0.states, bounds c.requires.0.taken)
 
-pub slice_bounds-print_ordered-end-in-Renumbered : goal.slice_bounds-print_ordered-end-in-Renumbered
-slice_bounds-print_ordered-end-in-Renumbered c =
-    let renumber_next_images_kept = c.renumber-answer.auto.next_images in
+pub slice_bounds-print_ordered-end-in-Ok : goal.slice_bounds-print_ordered-end-in-Ok
+slice_bounds-print_ordered-end-in-Ok c =
+    let renumber_next_images_kept = c.renumber-answer.auto.room in
     sym (length-take-le _ _ (omega (arith, renumber_next_images_kept, c.requires.1.next_images, c.requires.0.states, bounds c.requires.0.taken)))
 
-pub slice_bounds-print_ordered-end-in-Renumbered-2 : goal.slice_bounds-print_ordered-end-in-Renumbered-2
-slice_bounds-print_ordered-end-in-Renumbered-2 c =
-    let renumber_gates_out_kept = c.renumber-answer.auto.gates_out in
+pub slice_bounds-print_ordered-end-in-Ok-2 : goal.slice_bounds-print_ordered-end-in-Ok-2
+slice_bounds-print_ordered-end-in-Ok-2 c =
+    let renumber_gates_out_kept = c.renumber-answer.auto.room in
     omega (
       arith,
       renumber_gates_out_kept,
       c.requires.1.gates_out,
-      given_made _ _ _ _ _ _ _ _ _ _ _ _ c.requires.0 c.requires.1 _ _ _ _ _ _ _ _ _ c.circuit_on-circuit.ensures c.no_resets-resets.ensures
-          c.renumber-answer.ensures _ c.in-Renumbered.is,
+      given_made _ _ _ _ _ _ _ _ _ _ _ _ c.requires.0 c.requires.1 _ _ _ _ _ _ _ _ _ c.circuit_on-circuit.ensures c.filled-resets.ensures.all
+          c.renumber-answer.ensures _ c.in-Ok.is,
     )
 
-pub slice_bounds-print_ordered-end-in-Renumbered-3 : goal.slice_bounds-print_ordered-end-in-Renumbered-3
-slice_bounds-print_ordered-end-in-Renumbered-3 c =
-    let renumber_gates_out_kept = c.renumber-answer.auto.gates_out in
+pub slice_bounds-print_ordered-end-in-Ok-3 : goal.slice_bounds-print_ordered-end-in-Ok-3
+slice_bounds-print_ordered-end-in-Ok-3 c =
+    let renumber_gates_out_kept = c.renumber-answer.auto.room in
     sym (length-take-le _ _ (omega (
       arith,
       renumber_gates_out_kept,
       c.requires.1.gates_out,
-      given_made _ _ _ _ _ _ _ _ _ _ _ _ c.requires.0 c.requires.1 _ _ _ _ _ _ _ _ _ c.circuit_on-circuit.ensures c.no_resets-resets.ensures
-          c.renumber-answer.ensures _ c.in-Renumbered.is,
+      given_made _ _ _ _ _ _ _ _ _ _ _ _ c.requires.0 c.requires.1 _ _ _ _ _ _ _ _ _ c.circuit_on-circuit.ensures c.filled-resets.ensures.all
+          c.renumber-answer.ensures _ c.in-Ok.is,
     )))
 
-pub slice_bounds-print_ordered-end-in-Renumbered-4 : goal.slice_bounds-print_ordered-end-in-Renumbered-4
-slice_bounds-print_ordered-end-in-Renumbered-4 c =
-    let renumber_root_images_kept = c.renumber-answer.auto.root_images in
+pub slice_bounds-print_ordered-end-in-Ok-4 : goal.slice_bounds-print_ordered-end-in-Ok-4
+slice_bounds-print_ordered-end-in-Ok-4 c =
+    let renumber_root_images_kept = c.renumber-answer.auto.room in
     omega (arith, renumber_root_images_kept, c.requires.1.root_images, c.requires.0.roots, bounds c.requires.0.taken)
 
-pub slice_bounds-print_ordered-end-in-Renumbered-5 : goal.slice_bounds-print_ordered-end-in-Renumbered-5
-slice_bounds-print_ordered-end-in-Renumbered-5 c =
-    let renumber_root_images_kept = c.renumber-answer.auto.root_images in
+pub slice_bounds-print_ordered-end-in-Ok-5 : goal.slice_bounds-print_ordered-end-in-Ok-5
+slice_bounds-print_ordered-end-in-Ok-5 c =
+    let renumber_root_images_kept = c.renumber-answer.auto.room in
     sym (length-take-le _ _ (omega (arith, renumber_root_images_kept, c.requires.1.root_images, c.requires.0.roots, bounds c.requires.0.taken)))
 
-pub returns-in-Renumbered : goal.returns-in-Renumbered
-returns-in-Renumbered c =
-    put_same c.print_ordered.ensures
-    (given_ordered _ _ _ _ _ _ _ _ _ _ _ _ c.requires.0 c.requires.1 _ _ _ _ _ _ _ _ _ c.circuit_on-circuit.ensures c.no_resets-resets.ensures
-    c.renumber-answer.ensures _ c.in-Renumbered.is)
+pub returns-in-Ok : goal.returns-in-Ok
+returns-in-Ok c =
+    put_same _ _ c.print_ordered.ensures
+    (given_ordered _ _ _ _ _ _ _ _ _ _ _ _ c.requires.0 c.requires.1 _ _ _ _ _ _ _ _ _ c.circuit_on-circuit.ensures c.filled-resets.ensures.all
+    c.renumber-answer.ensures _ c.in-Ok.is)
 
-pub returns-in-Refused : goal.returns-in-Refused
-returns-in-Refused c =
-    put_same c.print_refused.ensures
-    (given_refused _ _ _ _ _ _ _ _ _ _ _ _ c.requires.0 c.requires.1 _ _ _ _ _ _ _ _ _ c.circuit_on-circuit.ensures c.no_resets-resets.ensures
-    c.renumber-answer.ensures _ c.in-Refused.is)
+pub returns-in-Err : goal.returns-in-Err
+returns-in-Err c =
+    put_same _ _ c.print_refused.ensures
+    (given_refused _ _ _ _ _ _ _ _ _ _ _ _ c.requires.0 c.requires.1 _ _ _ _ _ _ _ _ _ c.circuit_on-circuit.ensures c.filled-resets.ensures.all
+    c.renumber-answer.ensures _ c.in-Err.is)

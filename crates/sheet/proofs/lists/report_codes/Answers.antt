@@ -31,24 +31,24 @@ pub slice_bounds-words-end : goal.slice_bounds-words-end
 slice_bounds-words-end c =
     omega (arith, c.code_count-count.ensures, codes_few c.requires.0)
 
-pub slice_bounds-narrow-end-in-Nothing : goal.slice_bounds-narrow-end-in-Nothing
-slice_bounds-narrow-end-in-Nothing c =
-    sym (length-take-le c.code_count-count.result c.all_words-words.result
-    (omega (arith, c.code_count-count.ensures, codes_few c.requires.0, c.all_words-words.ensures)))
+pub slice_bounds-narrow-end-in-None : goal.slice_bounds-narrow-end-in-None
+slice_bounds-narrow-end-in-None c =
+    sym (length-take-le c.code_count-count.result c.filled-words.result
+    (omega (arith, c.code_count-count.ensures, codes_few c.requires.0, c.filled-words.ensures.long)))
 
 pub narrow-requires : goal.narrow-requires
 narrow-requires c =
     let a = c.args in (
-      length-take-le c.code_count-count.result c.all_words-words.result
-          (omega (arith, c.code_count-count.ensures, codes_few c.requires.0, c.all_words-words.ensures)) ∙ sym
+      length-take-le c.code_count-count.result c.filled-words.result
+          (omega (arith, c.code_count-count.ensures, codes_few c.requires.0, c.filled-words.ensures.long)) ∙ sym
           (codes_long a.header.now a.codes.now c.requires.0 c.requires.1 c.code_count-count.result
           c.code_count-count.ensures),
       narrow_words_lem a.header.now a.codes.now c.requires.0 c.requires.1
-          c.code_count-count.result c.code_count-count.ensures (sym c.in-Nothing.is ∙ c.first_over-offender.ensures),
+          c.code_count-count.result c.code_count-count.ensures (sym c.first_over.ensures ∙ c.in-None.is),
     )
 
-pub slice_bounds-words-end-in-Nothing : goal.slice_bounds-words-end-in-Nothing
-slice_bounds-words-end-in-Nothing c =
+pub slice_bounds-words-end-in-None : goal.slice_bounds-words-end-in-None
+slice_bounds-words-end-in-None c =
     let a = c.args in
     (words_front_lem a.header.now a.codes.now c.requires.0 c.requires.1 c.code_count-count.result
     c.code_count-count.ensures c.narrow.new.words _ c.narrow.ensures).room
@@ -69,17 +69,17 @@ report_words-requires c =
           c.code_count-count.ensures (narrow_words) _ c.narrow.ensures).count ∙ c.code_count-count.ensures,
     )
 
-pub returns-in-Nothing : goal.returns-in-Nothing
-returns-in-Nothing c =
+pub returns-in-None : goal.returns-in-None
+returns-in-None c =
     let narrow_words = c.narrow.new.words in
     let a = c.args in
-    put_same c.report_words.ensures (narrowed_text a.header.now a.codes.now c.requires.0 c.requires.1
+    put_same _ _ c.report_words.ensures (narrowed_text a.header.now a.codes.now c.requires.0 c.requires.1
     c.code_count-count.result c.code_count-count.ensures _
     (words_front_lem a.header.now a.codes.now c.requires.0 c.requires.1 c.code_count-count.result
     c.code_count-count.ensures (narrow_words) _ c.narrow.ensures).same)
 
-pub returns-in-Over : goal.returns-in-Over
-returns-in-Over c =
+pub returns-in-Some : goal.returns-in-Some
+returns-in-Some c =
     let a = c.args in
-    put_same c.put_refused.ensures (over_refused a.header.now a.codes.now c.requires.0 c.requires.1
-    c.code_count-count.result c.code_count-count.ensures _ (sym c.in-Over.is ∙ c.first_over-offender.ensures))
+    put_same _ _ c.put_refused.ensures (over_refused a.header.now a.codes.now c.requires.0 c.requires.1
+    c.code_count-count.result c.code_count-count.ensures _ (sym c.first_over.ensures ∙ c.in-Some.is))

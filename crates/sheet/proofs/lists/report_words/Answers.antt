@@ -38,7 +38,7 @@ slice_bounds-states-end c =
 pub slice_bounds-split-end-2 : goal.slice_bounds-split-end-2
 slice_bounds-split-end-2 c =
     let a = c.args in
-    sym (length-take-le (latch_count a.header.now) c.row-states.result (omega (arith, c.row-states.ensures, bounds c.requires.0)))
+    sym (length-take-le (latch_count a.header.now) c.filled-states.result (omega (arith, c.filled-states.ensures.long, bounds c.requires.0)))
 
 pub slice_bounds-nexts-end : goal.slice_bounds-nexts-end
 slice_bounds-nexts-end c =
@@ -47,15 +47,15 @@ slice_bounds-nexts-end c =
 pub slice_bounds-split-end-3 : goal.slice_bounds-split-end-3
 slice_bounds-split-end-3 c =
     let a = c.args in
-    sym (length-take-le (latch_count a.header.now) c.row-nexts.result (omega (arith, c.row-nexts.ensures, bounds c.requires.0)))
+    sym (length-take-le (latch_count a.header.now) c.filled-nexts.result (omega (arith, c.filled-nexts.ensures.long, bounds c.requires.0)))
 
 pub split-requires : goal.split-requires
 split-requires c =
     let a = c.args in (
       part_long a.header.now a.words.now c.requires.0 c.requires.1 ∙ ap (λ (k : ℕ). 2 * k)
-          (sym (length-take-le (latch_count a.header.now) c.row-states.result (omega (arith, c.row-states.ensures, bounds c.requires.0)))),
-      length-take-le (latch_count a.header.now) c.row-nexts.result (omega (arith, c.row-nexts.ensures, bounds c.requires.0)) ∙ sym
-          (length-take-le (latch_count a.header.now) c.row-states.result (omega (arith, c.row-states.ensures, bounds c.requires.0))),
+          (sym (length-take-le (latch_count a.header.now) c.filled-states.result (omega (arith, c.filled-states.ensures.long, bounds c.requires.0)))),
+      length-take-le (latch_count a.header.now) c.filled-nexts.result (omega (arith, c.filled-nexts.ensures.long, bounds c.requires.0)) ∙ sym
+          (length-take-le (latch_count a.header.now) c.filled-states.result (omega (arith, c.filled-states.ensures.long, bounds c.requires.0))),
     )
 
 pub slice_bounds-report_circuit-end : goal.slice_bounds-report_circuit-end
@@ -116,7 +116,7 @@ returns c =
     let split_states = c.split.new.states in
     let split_nexts = c.split.new.nexts in
     let a = c.args in
-    put_same c.report_circuit.ensures (ap (λ (C : Circuit). out_text C (renumber C))
+    put_same _ _ c.report_circuit.ensures (ap (λ (C : Circuit). out_text C (renumber C))
     (lists-circuit a.header.now a.words.now refl
     (states_front a.header.now a.words.now c.requires.0 c.requires.1 (split_states) _ c.split.ensures.0).same
     (nexts_front a.header.now a.words.now c.requires.0 c.requires.1 (split_nexts) _ c.split.ensures.1).same
