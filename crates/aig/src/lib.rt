@@ -43,7 +43,6 @@ pub fn renumber(
 ) -> Result<Summary, Refusal>
     ensures { left_in result room.exit ≡ outcome (lent_in circuit lists.now room.entry) }
 {
-    checks::checked(circuit, lists, &room)?;
     let CircuitRoom {
         map,
         next_images,
@@ -52,6 +51,16 @@ pub fn renumber(
         gates_out,
         scratch,
     } = room;
+    checks::checked(
+        circuit,
+        lists,
+        map,
+        next_images,
+        reset_images,
+        root_images,
+        gates_out,
+        scratch,
+    )?;
     let end = walks::walk_all(circuit, lists, map, gates_out, scratch);
     let room = CircuitRoom {
         map,

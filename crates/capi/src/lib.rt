@@ -149,17 +149,15 @@ pub extern "C" fn imdagluz_expand(
       triples = triples.old;
     }) }
 {
-    match ordered::expand(
+    let said = ordered::expand(
         inputs as usize,
         latches as usize,
         gates,
         input_codes,
         state_codes,
         triples,
-    ) {
-        Ok(()) => 0,
-        Err(why) => u32::from(why),
-    }
+    );
+    ordered::number(said)
 }
 
 // Writes an ordered circuit as a binary AIGER file, as `binary::write` does: 0, or a refusal's number. The answer goes to the first two words of `answer`: the

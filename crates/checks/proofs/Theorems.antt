@@ -29,5 +29,5 @@ one_first_stray κs a x y e f p q = p ∙ sym q
 pub one_sized : Determines 0 sized-kinds.ps sized-kinds.r sized-contract.Learnt
 one_sized κs a x y e f p q = p ∙ sym q
 
-pub one_checked : Determines 4 checked-kinds.ps checked-kinds.r checked-contract.Learnt
+pub one_checked : Determines 8 checked-kinds.ps checked-kinds.r checked-contract.Learnt
 one_checked κs a x y e f p q = p ∙ sym q

@@ -2,13 +2,12 @@
 #![tactic(auto)]
 
 ghost use Rattle.std.specs.Prelude.{◌≡◌, ◌+◌, ◌*◌};
-ghost use Rattle.circuit.specs.Outcome.{total};
+ghost use Rattle.circuit.specs.Outcome.{total, lent_of};
 ghost use Rattle.circuit.specs.Circuit.{latch_codes, codes, first_over, first_stray};
-ghost use Rattle.circuit.specs.Passed.{lent_in};
 ghost use Rattle.checks.specs.Bare.{circuit_with};
 ghost use Rattle.checks.specs.Checks.{found, over_limit, unequal, lacks, Small, sizing, straying, passing, Shaped};
 
-use circuit::{CircuitLists, CircuitRecord, CircuitRoom, LIMIT, Refusal};
+use circuit::{CircuitLists, CircuitRecord, LIMIT, Refusal};
 use lent::words::{counted, is_reset, wide};
 use lit::{Lit, Var};
 
@@ -147,13 +146,19 @@ fn over(circuit: CircuitRecord, lists: &CircuitLists) -> Option<Lit>
         .or_else(|| over_in(lists.roots, bound))
 }
 
-// Checks 1 to 4, and then 22.
+// Checks 1 to 4, and then 22. The lists that renumbering would write are only measured, so that whoever may but read them can ask as well.
 pub fn checked(
     circuit: CircuitRecord,
     lists: &CircuitLists,
-    room: &CircuitRoom,
+    map: &[u32],
+    next_images: &[u32],
+    reset_images: &[u32],
+    root_images: &[u32],
+    gates_out: &[u32],
+    scratch: &[u32],
 ) -> Result<(), Refusal>
-    ensures { result ≡ passing (lent_in circuit lists.now room.now) }
+    ensures { result ≡ passing (lent_of circuit lists.now.inputs.now lists.now.states.now lists.now.nexts.now lists.now.resets.now
+        lists.now.gates.now lists.now.roots.now map.now next_images.now reset_images.now root_images.now gates_out.now scratch.now) }
 {
     let n = Lengths {
         inputs: lists.inputs.len(),
@@ -163,12 +168,12 @@ pub fn checked(
         gates: lists.gates.len() / 3,
         left_over: lists.gates.len() % 3,
         roots: lists.roots.len(),
-        map: room.map.len(),
-        next_images: room.next_images.len(),
-        reset_images: room.reset_images.len(),
-        root_images: room.root_images.len(),
-        gates_out: room.gates_out.len(),
-        scratch: room.scratch.len(),
+        map: map.len(),
+        next_images: next_images.len(),
+        reset_images: reset_images.len(),
+        root_images: root_images.len(),
+        gates_out: gates_out.len(),
+        scratch: scratch.len(),
     };
     sized(circuit, n)?;
     if let Some(lit) = over(circuit, lists) {

@@ -29,8 +29,10 @@ use Rattle.ordered.specs.Check.{Checked, fits, Words, circuit_in, words_of, code
 use Rattle.ordered.specs.Given.{Given, limited, Even, FirstLoose, Says}
 use Rattle.ordered.proofs.Exactly as lent
 use Rattle.ordered.proofs.Expansions as expansions
-use Rattle.ordered.proofs.U32FromUnexpanded.from.Kinds as number-kinds
-use Rattle.ordered.proofs.U32FromUnexpanded.from.Reads as number-contract
+use Rattle.ordered.proofs.number.Kinds as number-kinds
+use Rattle.ordered.proofs.number.Reads as number-contract
+use Rattle.ordered.proofs.U32FromUnexpanded.from.Kinds as reason-number-kinds
+use Rattle.ordered.proofs.U32FromUnexpanded.from.Reads as reason-number-contract
 use Rattle.ordered.proofs.given.U32FromFault.from.Kinds as fault-number-kinds
 use Rattle.ordered.proofs.given.U32FromFault.from.Reads as fault-number-contract
 use Rattle.ordered.proofs.given.fault_literal.Kinds as fault-literal-kinds
@@ -42,6 +44,9 @@ use Rattle.ordered.proofs.expand.Reads as expand-contract
 
 pub one_number : Determines 0 number-kinds.ps number-kinds.r number-contract.Learnt
 one_number κs a x y e f p q = p ∙ sym q
+
+pub one_reason_number : Determines 0 reason-number-kinds.ps reason-number-kinds.r reason-number-contract.Learnt
+one_reason_number κs a x y e f p q = p ∙ sym q
 
 pub one_expand : DeterminesCells 4 expand-kinds.ps expand-kinds.r expand-contract.Learnt {A = Lists}
     (λ κs e. record { inputs = e.1.1.1.0.now; states = e.1.1.1.1.0.now; triples = e.1.1.1.1.1.0.now })
