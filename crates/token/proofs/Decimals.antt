@@ -92,14 +92,13 @@ digits_some s at h =
     (omega (arith, digits_within s at), rw (← first) (leading_at is_digit (drop at s) 0 h))
 
 -- the test of a byte
-pub digit_tested : {t : Bool} (s : List ℕ) (at b : ℕ) → at < length s → b ≡ get_or s at 0 → MatchBool t (IsAsciiDigit b) (IsNotAsciiDigit b)
-    → t ≡ ltb 0 (digits_at s at)
-digit_tested {t} s at b there byte is = go t is
+pub digit_tested : {t : Bool} (s : List ℕ) (at b : ℕ) → at < length s → b ≡ get_or s at 0 → t ≡ is_digit b → t ≡ ltb 0 (digits_at s at)
+digit_tested s at b there byte is = is ∙ go (is_digit b) refl
   where
-    go : (u : Bool) → MatchBool u (IsAsciiDigit b) (IsNotAsciiDigit b) → u ≡ ltb 0 (digits_at s at)
-    go true h = rw (digits_more s at b there (sym byte) (digit_yes b h.0 (omega (arith, h.1))), lt-ltb 0 (suc (digits_at s (at + 1))) (omega arith))
-    go false h =
-        let none : digits_at s at ≡ 0 = elim h [ inl low ↦ digits_none s at b there (sym byte) (digit_under b low) | inr high ↦ digits_none s at b there (sym byte) (digit_over b (omega arith)) ] in
+    go : (u : Bool) → is_digit b ≡ u → u ≡ ltb 0 (digits_at s at)
+    go true e = rw (digits_more s at b there (sym byte) e, lt-ltb 0 (suc (digits_at s (at + 1))) (omega arith))
+    go false e =
+        let none : digits_at s at ≡ 0 = digits_none s at b there (sym byte) e in
         rw none
 
 -- a loop over the digits at a place: n of them are passed, and write v

@@ -4,7 +4,7 @@
 #![tactic(auto)]
 
 ghost use Rattle.std.specs.Prelude.{Ok, SomeIff, ◌≡◌, ◌+◌, ◌*◌, ◌^◌, ◌<◌, ◌≤◌, ltb, length, take, drop};
-ghost use Rattle.token.specs.Format.{decimal_value};
+ghost use Rattle.token.specs.Format.{decimal_value, is_digit};
 ghost use Rattle.token.specs.Answer.{reason_number, digits_at, fitting, uint_at, binary_at, less, delta_at, within, assigned, header_field_at, lit_at, symbol_index_at, pair_of, pair_at};
 
 // Why a number is refused, with the documents' number of each reason.
@@ -53,11 +53,19 @@ impl From<Reason> for u32 {
     }
 }
 
+// Whether a byte is a digit.
+#[tactic(auto, unfolding(crate::specs::Format::is_digit))]
+fn is_digit(b: u8) -> bool
+    ensures { result ≡ is_digit b }
+{
+    b.is_ascii_digit()
+}
+
 // Whether a digit stands at a place.
 fn digit_at(s: &[u8], at: usize) -> bool
     ensures { result ≡ ltb 0 (digits_at s.now at) }
 {
-    at < s.len() && s[at].is_ascii_digit()
+    at < s.len() && is_digit(s[at])
 }
 
 // A number with one digit more, where that fits 64 bits. Below a tenth of the largest it does, whatever the digit: one comparison says so.
@@ -78,7 +86,7 @@ fn decimal(s: &[u8], at: usize) -> Result<Number, Refused>
 {
     let mut v: u64 = 0;
     for (n, &b) in s[at..].iter().enumerate() {
-        if !b.is_ascii_digit() {
+        if !is_digit(b) {
             return Ok(Number { value: v, used: n });
         }
         let Some(more) = with_digit(v, u64::from(b - b'0')) else {
@@ -169,6 +177,9 @@ fn taken_from(delta: Number, reference: u64, at: usize) -> Result<Number, Refuse
 }
 
 // A reference less the delta at a place: 15 and 16 as `binary_uint`, and 17 for a delta over its reference.
+//
+// Put into its callers: an answer that goes through memory has each delta of a file wait for the one before.
+#[inline(always)]
 #[tactic(auto, unfolding(crate::specs::Answer::delta_at))]
 pub fn delta_code(s: &[u8], at: usize, reference: u64) -> Result<Number, Refused>
     ensures { result ≡ delta_at s.now at reference }

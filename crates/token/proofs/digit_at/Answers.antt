@@ -6,7 +6,7 @@ use Rattle.token.proofs.Decimals.{digits_end, digit_tested}
 use Rattle.token.proofs.digit_at.Goals as goal
 
 pub returns-then-at-s : goal.returns-then-at-s
-returns-then-at-s c = digit_tested c.args.s.now c.args.at _ c.if-at-s.true refl c.is_ascii_digit.ensures.cases
+returns-then-at-s c = digit_tested c.args.s.now c.args.at _ c.if-at-s.true refl c.is_digit.ensures
 
 pub returns-else-at-s : goal.returns-else-at-s
 returns-else-at-s c =
