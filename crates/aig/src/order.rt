@@ -1,5 +1,5 @@
 // The walks in turn: gate outputs unless trimmed, next states, roots.
-ghost use Rattle.std.specs.Prelude.{◌<◌};
+ghost use Rattle.std.specs.Prelude.{◌<◌, ◌≤◌};
 ghost use Rattle.aig.specs.Walks.{CanWalk, Walks, every_from, turns};
 
 use crate::shape::Shape;
@@ -19,20 +19,23 @@ fn each(
     out: &mut [u32],
     scratch: &mut [u32],
 ) -> Result<usize, Refusal>
-    requires { (0 < step) × CanWalk shape gates.now before (every_from step 0 lits.now) map.old out.old scratch.old }
+    requires { (0 < step) × (step ≤ 3) × CanWalk shape gates.now before (every_from step 0 lits.now) map.old out.old scratch.old }
     ensures { Walks shape gates.now before (every_from step 0 lits.now) map.old out.old
         scratch.old result map.new out.new scratch.new }
 {
     let mut made = before;
-    for code in lits.iter().step_by(step) {
+    let mut i = 0;
+    // a `while`, since `step_by` asks its iterator for each literal that it passes over
+    while i < lits.len() {
         made = walk::run(
-            State::Transfer(Walk::start(made), Lit::from_code(*code)),
+            State::Transfer(Walk::start(made), Lit::from_code(lits[i])),
             shape,
             gates,
             map,
             out,
             scratch,
         )?;
+        i += step;
     }
     Ok(made)
 }

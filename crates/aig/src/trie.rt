@@ -54,9 +54,12 @@ pub fn find(shape: Shape, pair: Pair, out: &[u32], scratch: &[u32]) -> Search
     let mut place = shape.vars + place_of(pair.larger);
     let mut key = 2 * pair.smaller.code() + pair.larger.code() % 2;
     for _ in 0..BITS {
-        let Some(k) = wide(scratch[place]).checked_sub(1) else {
+        // by a test and a difference: the option that `checked_sub` answers costs instructions at each link
+        let linked = wide(scratch[place]);
+        if linked == 0 {
             return Search::Free(place);
-        };
+        }
+        let k = linked - 1;
         if store::is_at(out, k, pair) {
             return Search::Found(code_at(shape, k));
         }

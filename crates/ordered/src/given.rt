@@ -105,13 +105,16 @@ fn over_in_gates(bound: usize, gates: &[u32], loose: Option<Lit>) -> Option<Lit>
 }
 
 // Check 4 of the latches, each by its next state and then its reset; a next state that has no reset is not looked at. `checks::over_in_latches` looks at
-// three lists; what the two do at a latch is `over_in`, and only the zip is left to each.
+// three lists, by `over_in`; two tests here, since an array of the two codes costs each latch instructions.
 fn over_in_latches(nexts: &[u32], resets: &[u32], bound: usize) -> Option<Lit>
     ensures { result ≡ found (first_over bound (side_by_side nexts.now resets.now)) }
 {
     for (&next, &reset) in nexts.iter().zip(resets) {
-        if let Some(lit) = over_in(&[next, reset], bound) {
-            return Some(lit);
+        if bound < wide(next) {
+            return Some(Lit::from_code(next));
+        }
+        if bound < wide(reset) {
+            return Some(Lit::from_code(reset));
         }
     }
     None

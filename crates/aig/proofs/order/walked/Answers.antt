@@ -8,6 +8,7 @@ pub each-requires : goal.each-requires
 each-requires c =
     let a = c.args in (
       omega arith,
+      omega arith,
       outputs_can a.trim a.nexts.now a.roots.now c.requires (search rules),
     )
 
@@ -19,6 +20,7 @@ returns-in_err-made c =
 pub each-requires-2 : goal.each-requires-2
 each-requires-2 c =
     let a = c.args in (
+      omega arith,
       omega arith,
       nexts_can a.trim a.nexts.now a.roots.now c.requires _ _ _ _ (elim c.if-not-trim.branch [
         | then-not-trim+in_ok-made w ↦ rw (w.made-is, w.map-is, w.out-is, w.scratch-is)
@@ -39,6 +41,7 @@ returns-in_err-made-2 c =
 pub each-requires-3 : goal.each-requires-3
 each-requires-3 c =
     let a = c.args in (
+      omega arith,
       omega arith,
       roots_can a.trim a.nexts.now a.roots.now c.requires _ _ _ _ (elim c.if-not-trim.branch [
         | then-not-trim+in_ok-made w ↦ rw (w.made-is, w.map-is, w.out-is, w.scratch-is)
