@@ -15,6 +15,8 @@ use Rattle.lines.specs.Sections.{Roots, roots_of}
 use Rattle.lines.specs.Promise.{LatchLists, latch_lists, LatchesLeft, Left}
 use Rattle.lines.specs.Stray.{Stray}
 use Rattle.lines.proofs.Resets.{stray_exactly, latches_no_stray}
+use Rattle.lines.proofs.BrokenFromTokenRefused.from.Kinds as broken-kinds
+use Rattle.lines.proofs.BrokenFromTokenRefused.from.Reads as broken-contract
 use Rattle.lines.proofs.U32FromFault.from.Kinds as number-kinds
 use Rattle.lines.proofs.U32FromFault.from.Reads as number-contract
 use Rattle.lines.proofs.byte.Kinds as byte-kinds
@@ -36,6 +38,9 @@ use Rattle.lines.proofs.roots.Reads as roots-contract
 
 pub one_fault_number : Determines 0 number-kinds.ps number-kinds.r number-contract.Learnt
 one_fault_number κs a x y e f p q = p ∙ sym q
+
+pub one_broken : Determines 0 broken-kinds.ps broken-kinds.r broken-contract.Learnt
+one_broken κs a x y e f p q = p ∙ sym q
 
 pub one_byte : Determines 1 byte-kinds.ps byte-kinds.r byte-contract.Learnt
 one_byte κs a x y e f p q = p ∙ sym q

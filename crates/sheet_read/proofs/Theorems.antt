@@ -4,6 +4,8 @@ use Prim.Native.Nat.{ℕ}
 use mathlib.Core.Path.{sym, ap, ◌∙◌}
 use mathlib.Core.List.{List}
 use Rattle.promise.specs.Determined.{Determines, DeterminesCells}
+use Rattle.sheet_read.proofs.FaultyFromRefused.from.Kinds as faulty-kinds
+use Rattle.sheet_read.proofs.FaultyFromRefused.from.Reads as faulty-contract
 use Rattle.sheet_read.proofs.first_over.Kinds as first-over-kinds
 use Rattle.sheet_read.proofs.first_over.Reads as first-over-contract
 use Rattle.sheet_read.proofs.announced.Kinds as announced-kinds
@@ -12,6 +14,9 @@ use Rattle.sheet_read.proofs.numbers.Kinds as numbers-kinds
 use Rattle.sheet_read.proofs.numbers.Reads as numbers-contract
 use Rattle.sheet_read.proofs.read.Kinds as read-kinds
 use Rattle.sheet_read.proofs.read.Reads as read-contract
+
+pub one_faulty : Determines 0 faulty-kinds.ps faulty-kinds.r faulty-contract.Learnt
+one_faulty κs a x y e f p q = p ∙ sym q
 
 pub one_first_over : Determines 1 first-over-kinds.ps first-over-kinds.r first-over-contract.Learnt
 one_first_over κs a x y e f p q = p ∙ sym q

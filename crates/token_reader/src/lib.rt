@@ -28,7 +28,8 @@ impl Taken for Inputs {
     ghost used_of = { λ inputs. inputs.used };
 
     fn used(self) -> usize {
-        self.used
+        let Inputs { used, .. } = self;
+        used
     }
 }
 
