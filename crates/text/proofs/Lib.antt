@@ -1,4 +1,5 @@
 pub mod Puts
 pub mod Digits
 pub mod Groups
+pub mod Pins
 pub mod Theorems

@@ -5,9 +5,18 @@ use mathlib.Core.Path.{◌≡◌, refl}
 use mathlib.Core.Bool.{true, false}
 use mathlib.Core.List.{[], ◌∷◌}
 use native.Mathlib.Omega.{arith}
+use Rattle.std.specs.Prelude.{Ok, Err}
 use Rattle.token.specs.Format.{Bytes, is_digit, goes_on, Grouped, final, group, digits_of, shortest}
 use Rattle.token.specs.Answer.{reason_number, token_number, pair_number, digits_at, uint_at, go_on_at, binary_at, less, delta_at, within, assigned, header_field_at, lit_at, symbol_index_at, pair_of, pair_second, pair_first, pair_at, inputs, refused, value}
+use Rattle.token.specs.declared.Number.{Number}
 use Rattle.token.specs.declared.Reason.TheVariants.{NoDigit, LeadingZero, OverWidth, OverLimit, AssignsZero, AssignsOdd, Cut, TooLong, OverReference, ZeroDelta}
+
+-- what the words of the answers stand for, a field a name
+pub words_pinned :
+    (value 6 1 ≡ Ok (record { value = 6; used = 1 }))
+    × (inputs 6 4 2 ≡ Ok (record { first = 6; second = 4; used = 2 }))
+    × (refused {A = Number} Cut 3 ≡ Err (record { why = Cut; place = 3 }))
+words_pinned = (refl, refl, refl)
 
 -- document 01's tokens; its starred ones are part of the theorem `starred` of the crate circuit, which states the whole starred list
 pub told :
