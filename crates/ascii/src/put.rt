@@ -32,15 +32,16 @@ fn put_stated(out: &mut [u8], at: usize, state: u32, next: u32, reset: u32) -> u
     sections::put_latch(out, after_space, next, reset)
 }
 
-// Latch lines, of the states after I inputs, and of next states and resets side by side, as long as both last; the place after them.
+// Latch lines, of the states after I inputs, and of next states and resets side by side, as long as both last; the place after them. By number: `zip` asks
+// of each list in each turn whether it ends, which costs each latch instructions.
 fn put_latches(out: &mut [u8], at: usize, inputs: u32, nexts: &[u32], resets: &[u32]) -> usize
     requires { inputs + length nexts.now ≤ limit }
     ensures { Puts out.old at (stated_lines (first_latch inputs) nexts.now resets.now) out.new result }
 {
     let mut state = 2 + 2 * inputs;
     let mut place = at;
-    for (next, reset) in nexts.iter().zip(resets) {
-        place = put_stated(out, place, state, *next, *reset);
+    for i in 0..nexts.len().min(resets.len()) {
+        place = put_stated(out, place, state, nexts[i], resets[i]);
         state += 2;
     }
     place

@@ -101,7 +101,7 @@ abbrev pub fault_at : Option ℕ → (Lit → Fault) → Checked → Checked
 fault_at (Some c) why after = Err (why (literal c))
 fault_at None why after = after
 
--- what checks 4, 22 and 23 found, as the code holds it: the first of them that found something
+-- what checks 4, 22 and 23 find, each a literal or none: the first of them that finds one
 abbrev pub first_fault : Option Lit → Option Lit → Option Lit → Checked
 first_fault (Some l) stray loose = Err (Over l)
 first_fault None (Some l) loose = Err (Reset l)

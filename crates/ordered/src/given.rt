@@ -5,7 +5,7 @@ ghost use Rattle.circuit.specs.Ordered.{count_from};
 ghost use Rattle.circuit.specs.Outcome.{limit, total, pairs_of};
 ghost use Rattle.circuit.specs.Resets.{side_by_side};
 ghost use Rattle.checks.specs.Checks.{found};
-ghost use Rattle.ordered.specs.Check.{fault_number, fault_literal, too_large, uneven, codes_of, breaks_order, first_disordered, first_fault, checked};
+ghost use Rattle.ordered.specs.Check.{fault_number, fault_literal, too_large, uneven, codes_of, breaks_order, first_disordered, checked};
 
 use checks::{over_in, sum};
 use circuit::LIMIT;
@@ -176,22 +176,6 @@ fn first_disordered(t: usize, gates: &[u32]) -> Option<Lit>
     None
 }
 
-// What checks 4, 22 and 23 found: the first of them that found something.
-fn told(large: Option<Lit>, stray: Option<Lit>, loose: Option<Lit>) -> Result<(), Fault>
-    ensures { result ≡ first_fault large stray loose }
-{
-    if let Some(lit) = large {
-        return Err(Fault::Over(lit));
-    }
-    if let Some(reset) = stray {
-        return Err(Fault::Reset(reset));
-    }
-    if let Some(gate) = loose {
-        return Err(Fault::Disordered(gate));
-    }
-    Ok(())
-}
-
 // Whether an ordered circuit is lent, and the code that is asked is one of its codes; 0 where none is asked. 1 for I, L, G, R, V = I + L + G or the number
 // of justice sets over the limit; 2 for counts that do not sum to the roots, sizes that do not sum to the fifth count, more or fewer resets than next states or
 // an odd number of gate words; 4 for the first code over 2V + 1: gate by gate, latch by latch the next state and the reset, roots, the code asked; 22 for the
@@ -234,7 +218,17 @@ pub fn check(
         return Err(Fault::Misshapen);
     }
     let loose = first_disordered(2 * (sources + 1), gates);
+    // What is over is told before a stray is looked for: to hold both until the end costs each latch instructions.
     let large = over(2 * variables + 1, gates, nexts, resets, roots, asked, loose);
+    if let Some(lit) = large {
+        return Err(Fault::Over(lit));
+    }
     let stray = first_stray(2 * (wide(o.inputs) + 1), resets);
-    told(large, stray, loose)
+    if let Some(reset) = stray {
+        return Err(Fault::Reset(reset));
+    }
+    match loose {
+        Some(gate) => Err(Fault::Disordered(gate)),
+        None => Ok(()),
+    }
 }

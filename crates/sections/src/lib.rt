@@ -62,7 +62,8 @@ fn put_reset(out: &mut [u8], at: usize, reset: u32) -> usize
     at
 }
 
-// A latch's line: its next state, its reset where that is not 0, a newline; the place after it.
+// A latch's line: its next state, its reset where that is not 0, a newline; the place after it. Inlined always: the calls cost each latch instructions.
+#[inline(always)]
 pub fn put_latch(out: &mut [u8], at: usize, next: u32, reset: u32) -> usize
     ensures { Puts out.old at (latch_bytes next reset) out.new result }
 {
